@@ -1,0 +1,10 @@
+pub mod Layout
+pub mod Chains
+pub mod Roles
+pub mod Refusals
+pub mod Reached
+pub mod Moved
+pub mod Stepped
+pub mod Readable
+pub mod Answers
+pub mod LookUp
