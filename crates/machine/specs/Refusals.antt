@@ -120,14 +120,16 @@ cellChecks X later =
 abbrev pub entryChecks : Image → List Verdict
 entryChecks X = scan (badEntry X) (reg X T) (λ i. refused 7 (inArea Trail i)) ∷ []
 
--- 1 to 7 in their order
-abbrev pub checks : ℕ → Image → List Verdict
-checks lent X =
-    gate (enough lent X) (refused 1 nowhere)
-    ∷ gate (fits X) (refused 2 nowhere)
+-- 1 to 7 in their order; 1 is of the sizes alone
+abbrev pub imageChecks : Image → List Verdict
+imageChecks X =
+    gate (fits X) (refused 2 nowhere)
     ∷ chainCheck (faultOf X (walk X))
     ∷ scan (conflict X) (length (X .stack)) (λ i. refused 4 nowhere)
     ∷ cellChecks X (entryChecks X)
+
+abbrev pub checks : ℕ → Image → List Verdict
+checks lent X = gate (enough lent X) (refused 1 nowhere) ∷ imageChecks X
 
 -- the collector's verdict on an image, with so many work words lent
 unfoldable pub verdict : ℕ → Image → Verdict

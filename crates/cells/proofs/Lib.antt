@@ -1,0 +1,4 @@
+pub mod Refers
+pub mod Seeking
+pub mod Areas
+pub mod Bridge

@@ -1,0 +1,9 @@
+pub mod Shows
+pub mod Stores
+pub mod Readings
+pub mod Offsets
+pub mod Things
+pub mod Notings
+pub mod Walkings
+pub mod Ends
+pub mod Conflicts

@@ -1,0 +1,4 @@
+pub mod Stacks
+pub mod Drains
+pub mod Roots
+pub mod Marking
