@@ -1,0 +1,54 @@
+//! Compares a library, call by call, with the model.
+
+pub mod answers;
+pub mod calls;
+mod guard;
+mod images;
+mod one_call;
+mod schedule;
+pub mod tally;
+mod thawing;
+
+use std::ops::Range;
+
+use calls::Calls;
+use tally::Tally;
+
+use crate::generate;
+use crate::random::Random;
+
+/// Files draw from the seed's complement, so that images and files are independent.
+fn file_seed(seed: u64) -> u64 {
+    !seed
+}
+
+/// Compares the image and the file of each item. `begin` is called with each item before it.
+pub fn run(
+    library: &dyn Calls,
+    seed: u64,
+    items: Range<u64>,
+    mut begin: impl FnMut(u64),
+) -> Result<Tally, String> {
+    let mut tally = Tally::default();
+    for item in items {
+        begin(item);
+        compare_item(library, seed, item, &mut tally)
+            .map_err(|text| format!("seed {seed}, item {item}: {text}"))?;
+    }
+    Ok(tally)
+}
+
+/// Compares one image and one file.
+fn compare_item(
+    library: &dyn Calls,
+    seed: u64,
+    item: u64,
+    tally: &mut Tally,
+) -> Result<(), String> {
+    let mut random = Random::for_item(seed, item);
+    let image = generate::image(&mut random);
+    images::compare_image(&mut random, library, &image, tally)?;
+    let mut random = Random::for_item(file_seed(seed), item);
+    let case = generate::file::file_case(&mut random);
+    thawing::compare_file(&mut random, library, &case, tally)
+}

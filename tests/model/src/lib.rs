@@ -1,0 +1,30 @@
+//! A plain and slow model of document 01, written from the document and not from the code, with
+//! a generator of images and files and a comparison of any library against the model.
+#![forbid(unsafe_code)]
+
+// The machine.
+pub mod chain;
+pub mod check;
+pub mod collect;
+pub mod image;
+pub mod look_up;
+pub mod reached;
+pub mod readable;
+pub mod refer;
+pub mod refusal;
+pub mod role;
+pub mod step_back;
+pub mod word;
+
+// Files and texts.
+pub mod freeze;
+pub mod listing;
+pub mod record;
+pub mod text;
+pub mod thaw;
+
+// Random images, and the comparison.
+pub mod antt;
+pub mod compare;
+pub mod generate;
+pub mod random;
