@@ -36,15 +36,6 @@ module _ (cells : ℕ → Bool) (work : List ℕ) (notes a : ℕ) where
   unfolding keepsEntry
   keeps-stack h = rw (le-ltb a stackBase h)
 
-module _ (d : ℕ → ℕ) (a : ℕ) where
-  pub entry-heap : a < stackBase → moveEntry d a ≡ d a
-  unfolding moveEntry
-  entry-heap h = rw (lt-ltb a stackBase h)
-
-  pub entry-stack : stackBase ≤ a → moveEntry d a ≡ a
-  unfolding moveEntry
-  entry-stack h = rw (le-ltb a stackBase h)
-
 pub entries-none : (trail work : List ℕ) (notes a to : ℕ) → to ≤ a → EntriesClosed trail work notes a a to trail to
 entries-none trail work notes a to h = record { passed = record { low = h; same = refl; ahead = refl }; closed = λ cells top words k b p c. c }
 

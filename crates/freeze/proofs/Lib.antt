@@ -1,0 +1,14 @@
+pub mod Table
+pub mod KindLaws
+pub mod VerdictLaws
+pub mod RecordLaws
+pub mod Checking
+pub mod WordLaws
+pub mod Filling
+pub mod ThawLaws
+pub mod WriteLaws
+pub mod FreezeLaws
+pub mod ByteLaws
+pub mod ReadBack
+pub mod WriteAgain
+pub mod Examples
