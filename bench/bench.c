@@ -1,5 +1,4 @@
 /* The tables. Exits 1 only when the two collectors differ; no time is judged. */
-#include <math.h>
 #include <stdio.h>
 #include <stdlib.h>
 
@@ -11,13 +10,15 @@
 enum { REPETITIONS = 9, FULL = HEAP_MOST };
 
 typedef struct {
-    double logarithms, worst;
+    double product, worst; /* product: of all ratios */
     int count, differ;
 } summary;
 
+static const summary nothing = {1, 0, 0, 0};
+
 static void add(summary *s, double ratio)
 {
-    s->logarithms += log(ratio);
+    s->product *= ratio;
     s->count++;
     if (ratio > s->worst)
         s->worst = ratio;
@@ -57,11 +58,35 @@ static void heading(const char *title)
            product_name, "ratio");
 }
 
+static double power(double base, int exponent)
+{
+    double result = 1;
+    while (exponent-- > 0)
+        result *= base;
+    return result;
+}
+
+/* The geometric mean, by halving. It lies between 0 and the worst ratio. The
+   mathematical library is not used: where programs for x86-64 are made on
+   another machine, its static form may not link. */
+static double mean(const summary *s)
+{
+    double low = 0, high = s->worst;
+    for (int i = 0; i < 60; i++) {
+        const double middle = (low + high) / 2;
+        if (power(middle, s->count) < s->product)
+            low = middle;
+        else
+            high = middle;
+    }
+    return high;
+}
+
 static void conclude(const char *title, const summary *s)
 {
     if (s->count)
         printf("%s: geometric mean %.3f, worst %.3f, over %d images\n", title,
-               exp(s->logarithms / s->count), s->worst, s->count);
+               mean(s), s->worst, s->count);
 }
 
 static void sound_table(areas *image, int repetitions, summary *s)
@@ -125,7 +150,7 @@ int main(int count, char **words)
     const int asked = count > 1 ? atoi(words[1]) : REPETITIONS;
     const int repetitions = asked > 0 ? asked : REPETITIONS;
     areas image = new_areas();
-    summary sound = {0}, broken = {0};
+    summary sound = nothing, broken = nothing;
     sound_table(&image, repetitions, &sound);
     for (size_t i = 0; i < damage_count; i++)
         broken_table(&image, damages + i, repetitions, &broken);

@@ -1,20 +1,7 @@
 /* The product, from its static library. */
 #include "product.h"
 
-#if __has_include("../include/bikorashen.h")
 #include "../include/bikorashen.h"
-#else
-typedef struct {
-    uint32_t refusal, area;
-    uint64_t index, cells_kept, cells_dropped, entries_kept, entries_dropped;
-} bik_collected;
-
-bik_collected bik_collect(uint32_t *control, size_t control_len,
-                          uint32_t *stack, size_t stack_len,
-                          uint32_t *heap, size_t heap_len,
-                          uint32_t *trail, size_t trail_len,
-                          uint32_t *work, size_t work_len);
-#endif
 
 const char product_name[] = "product";
 

@@ -23,6 +23,16 @@ impl Lent<'_> {
         }
     }
 
+    /// The four areas, for reading only.
+    pub fn shown(&self) -> Shown<'_> {
+        Shown {
+            control: self.control,
+            stack: self.stack,
+            heap: self.heap,
+            trail: self.trail,
+        }
+    }
+
     /// A copy of the four areas.
     pub fn image(&self) -> Image {
         Image {
@@ -50,7 +60,6 @@ pub struct Shown<'a> {
     pub trail: &'a [u32],
 }
 
-#[repr(C)]
 #[derive(Clone, Copy, Debug, Default, PartialEq, Eq)]
 pub struct Collected {
     pub refusal: u32,
@@ -62,7 +71,6 @@ pub struct Collected {
     pub entries_dropped: u64,
 }
 
-#[repr(C)]
 #[derive(Clone, Copy, Debug, Default, PartialEq, Eq)]
 pub struct Stepped {
     pub refusal: u32,
@@ -71,7 +79,6 @@ pub struct Stepped {
     pub undone: u64,
 }
 
-#[repr(C)]
 #[derive(Clone, Copy, Debug, Default, PartialEq, Eq)]
 pub struct Found {
     pub area: u32,
@@ -79,7 +86,6 @@ pub struct Found {
     pub length: u64,
 }
 
-#[repr(C)]
 #[derive(Clone, Copy, Debug, Default, PartialEq, Eq)]
 pub struct Thawed {
     pub refusal: u32,
@@ -90,14 +96,12 @@ pub struct Thawed {
     pub trail: u64,
 }
 
-#[repr(C)]
 #[derive(Clone, Copy, Debug, Default, PartialEq, Eq)]
 pub struct Frozen {
     pub refusal: u32,
     pub bytes: u64,
 }
 
-#[repr(C)]
 #[derive(Clone, Copy, Debug, Default, PartialEq, Eq)]
 pub struct RecordRead {
     pub refusal: u32,

@@ -1,10 +1,10 @@
 //! All comparisons on one image.
 
-use super::calls::{Calls, Collected};
+use super::asked::{Compared, Library};
+use super::calls::Collected;
 use super::one_call::*;
 use super::schedule::compare_schedule;
 use super::tally::Tally;
-use super::thawing::compare_thaw;
 use crate::check::{MOST_CONTROL, MOST_HEAP, MOST_STACK, MOST_TRAIL};
 use crate::freeze::file_length;
 use crate::image::{Image, FIXED_WORDS};
@@ -13,7 +13,7 @@ use crate::word::{stack_address, STACK_BASE};
 
 pub fn compare_image(
     random: &mut Random,
-    library: &dyn Calls,
+    library: &dyn Library,
     image: &Image,
     tally: &mut Tally,
 ) -> Compared<()> {
@@ -77,7 +77,7 @@ fn some_address(random: &mut Random, image: &Image) -> u32 {
 /// with room for its counts".
 fn compare_frozen(
     random: &mut Random,
-    library: &dyn Calls,
+    library: &dyn Library,
     image: &Image,
     tally: &mut Tally,
 ) -> Compared<()> {
@@ -91,12 +91,12 @@ fn compare_frozen(
     let lent = some_room(random, image);
     let thawed = compare_thaw(library, file, &lent)?;
     let control = image.control_header();
+    let read = thawed.image();
     let same = thawed.answer.refusal == 0
-        && thawed.image.control[..FIXED_WORDS + control.n]
-            == image.control[..FIXED_WORDS + control.n]
-        && thawed.image.stack[..image.stack.len()] == image.stack
-        && thawed.image.heap[..control.h] == image.heap[..control.h]
-        && thawed.image.trail[..control.t] == image.trail[..control.t];
+        && read.control[..FIXED_WORDS + control.n] == image.control[..FIXED_WORDS + control.n]
+        && read.stack[..image.stack.len()] == image.stack
+        && read.heap[..control.h] == image.heap[..control.h]
+        && read.trail[..control.t] == image.trail[..control.t];
     if !same {
         let lists = crate::text::four_lists("", image);
         return Err(format!("a written state is not read back\n{lists}"));

@@ -1,17 +1,22 @@
 //! Compares a library, call by call, with the model.
 
 pub mod answers;
+pub mod asked;
+pub mod call;
 pub mod calls;
-mod guard;
+pub mod difference;
+pub mod guard;
 mod images;
+pub mod lending;
 mod one_call;
 mod schedule;
 pub mod tally;
 mod thawing;
+pub mod wire;
 
 use std::ops::Range;
 
-use calls::Calls;
+use asked::Library;
 use tally::Tally;
 
 use crate::generate;
@@ -24,7 +29,7 @@ fn file_seed(seed: u64) -> u64 {
 
 /// Compares the image and the file of each item. `begin` is called with each item before it.
 pub fn run(
-    library: &dyn Calls,
+    library: &dyn Library,
     seed: u64,
     items: Range<u64>,
     mut begin: impl FnMut(u64),
@@ -40,7 +45,7 @@ pub fn run(
 
 /// Compares one image and one file.
 fn compare_item(
-    library: &dyn Calls,
+    library: &dyn Library,
     seed: u64,
     item: u64,
     tally: &mut Tally,

@@ -1,8 +1,9 @@
 //! Demand 3 by random schedules: steps back with collections anywhere among them, against the
 //! same steps without, each with one collection at the end.
 
-use super::calls::{Calls, Collected, Stepped};
-use super::one_call::{compare_collect, compare_step_back, Compared};
+use super::asked::{Compared, Library};
+use super::calls::{Collected, Stepped};
+use super::one_call::{compare_collect, compare_step_back};
 use crate::check::check_image;
 use crate::image::Image;
 use crate::random::Random;
@@ -16,7 +17,7 @@ const MOST_STEPS: usize = 4;
 /// Runs one schedule on an accepted image and answers how many steps back it had.
 pub fn compare_schedule(
     random: &mut Random,
-    library: &dyn Calls,
+    library: &dyn Library,
     image: &Image,
 ) -> Compared<usize> {
     let most = random.between(0, MOST_STEPS);
@@ -49,7 +50,7 @@ fn steps_possible(image: &Image, most: usize) -> usize {
 /// Makes the steps, each call by library and model alike, and reads the last state.
 fn run(
     random: &mut Random,
-    library: &dyn Calls,
+    library: &dyn Library,
     image: &Image,
     steps: usize,
     collections: bool,
@@ -68,20 +69,20 @@ fn run(
     }
 }
 
-fn collected(random: &mut Random, library: &dyn Calls, state: &Image) -> Compared<Image> {
+fn collected(random: &mut Random, library: &dyn Library, state: &Image) -> Compared<Image> {
     let work = random.garbage_list(state.work_needed());
     let outcome = compare_collect(library, state, &work)?;
     match outcome.answer {
-        Collected { refusal: 0, .. } => Ok(outcome.image),
+        Collected { refusal: 0, .. } => Ok(outcome.image()),
         Collected { refusal, .. } => Err(failed("a collection", state, refusal)),
     }
 }
 
-fn stepped_back(random: &mut Random, library: &dyn Calls, state: &Image) -> Compared<Image> {
+fn stepped_back(random: &mut Random, library: &dyn Library, state: &Image) -> Compared<Image> {
     let work = random.garbage_list(state.work_needed());
     let outcome = compare_step_back(library, state, &work)?;
     match outcome.answer {
-        Stepped { refusal: 0, .. } => Ok(outcome.image),
+        Stepped { refusal: 0, .. } => Ok(outcome.image()),
         Stepped { refusal, .. } => Err(failed("a step back", state, refusal)),
     }
 }

@@ -1,5 +1,6 @@
 //! What a run met: calls by refusal number and by place, and more.
 
+use super::call::Call;
 use crate::refusal::Area;
 
 /// Refusal numbers 1 to 15; 0 counts the accepted.
@@ -59,16 +60,19 @@ impl Tally {
         self.places[refusal as usize][area as usize]
     }
 
-    pub fn text(&self) -> String {
+    /// Names only the calls that are there.
+    pub fn text(&self, there: &[Call]) -> String {
         let mut text = format!("images {}, files {}\n", self.images, self.files);
         for (call, numbers) in [
-            ("collect", &self.collect),
-            ("step back", &self.step_back),
-            ("freeze", &self.freeze),
-            ("thaw", &self.thaw),
-            ("record", &self.record),
+            (Call::Collect, &self.collect),
+            (Call::StepBack, &self.step_back),
+            (Call::Freeze, &self.freeze),
+            (Call::Thaw, &self.thaw),
+            (Call::Record, &self.record),
         ] {
-            text += &format!("{call}: {}\n", numbers.text());
+            if there.contains(&call) {
+                text += &format!("{}: {}\n", call.name(), numbers.text());
+            }
         }
         text += "places:";
         for number in [5, 6, 7] {

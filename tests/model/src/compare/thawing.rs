@@ -1,8 +1,7 @@
 //! All comparisons on one file.
 
-use super::answers::Model;
-use super::calls::{Calls, Lent, Thawed};
-use super::guard::guarded_bytes;
+use super::asked::{Compared, Library};
+use super::calls::Thawed;
 use super::one_call::*;
 use super::tally::Tally;
 use crate::generate::file::FileCase;
@@ -11,7 +10,7 @@ use crate::random::Random;
 
 pub fn compare_file(
     random: &mut Random,
-    library: &dyn Calls,
+    library: &dyn Library,
     case: &FileCase,
     tally: &mut Tally,
 ) -> Compared<()> {
@@ -30,55 +29,26 @@ pub fn compare_file(
     }
     for _ in 0..3 {
         let offset = some_offset(random, case.file.len());
-        compare_record(library, &case.file, offset, tally)?;
+        let record = compare_record(library, &case.file, offset)?;
+        tally.record.add(record.refusal);
     }
     Ok(())
-}
-
-pub fn compare_thaw(library: &dyn Calls, file: &[u8], lent: &Image) -> Compared<Outcome<Thawed>> {
-    let guarded = guarded_bytes(file);
-    let by_library = |lent: Lent<'_>| library.thaw(guarded.area(), lent);
-    let by_model = |lent: Lent<'_>| Model.thaw(file, lent);
-    let outcome = both("thaw", lent, &[], by_library, by_model);
-    if guarded.area() != file || !guarded.intact() {
-        return Err(format!("thaw wrote the file {file:?}\n"));
-    }
-    outcome.map_err(|text| format!("{text}the file {file:?}\n"))
 }
 
 /// "each accepted file is written again byte for byte when the writer is given just the counted
 /// front of the stack"
 fn compare_written_again(
-    library: &dyn Calls,
+    library: &dyn Library,
     file: &[u8],
     thawed: &Outcome<Thawed>,
 ) -> Compared<()> {
-    let mut image = thawed.image.clone();
+    let mut image = thawed.image();
     image.stack.truncate(thawed.answer.stack as usize);
     let output = vec![0; file.len()];
     let (answer, written) = compare_freeze(library, &image, &output)?;
     if answer.refusal != 0 || written != file {
         return Err(format!(
             "an accepted file is not written again\nfile {file:?}\nwritten {written:?}\n"
-        ));
-    }
-    Ok(())
-}
-
-fn compare_record(
-    library: &dyn Calls,
-    file: &[u8],
-    offset: u64,
-    tally: &mut Tally,
-) -> Compared<()> {
-    let expected = Model.record_at(file, offset);
-    let guarded = guarded_bytes(file);
-    let found = library.record_at(guarded.area(), offset);
-    tally.record.add(expected.refusal);
-    if found != expected || guarded.area() != file || !guarded.intact() {
-        return Err(format!(
-            "difference in the record at {offset} of the file {file:?}\n\
-             model answers {expected:?}\nlibrary answers {found:?}\n"
         ));
     }
     Ok(())

@@ -1,0 +1,4 @@
+pub mod Reasons
+pub mod Calls
+pub mod Parts
+pub mod Files

@@ -1,0 +1,6 @@
+pub mod Puttings
+pub mod Decimals
+pub mod Lengths
+pub mod Listings
+pub mod OneListing
+pub mod Examples
