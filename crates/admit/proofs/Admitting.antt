@@ -1,84 +1,42 @@
 -- The parts of `admit` together give the table's verdict: each check that passes is skipped, and the first that does not is the answer.
 -- Assumes nothing.
-use Prim.Native.Nat.{ℕ, _+_, _-_, _≤_, _<_}
-use mathlib.Core.Path.{_≡_, refl, sym, ap, _∙_, subst}
-use mathlib.Core.Logic.{_≢_, _⊎_, inl, inr, ⊎-elim, _↔_}
-use mathlib.Core.Bool.{Bool, true, false, _&&_}
+use Prim.Native.Nat.{ℕ, _+_, _≤_, _<_}
+use mathlib.Core.Path.{_≡_, refl, sym, ap, _∙_}
+use mathlib.Core.Logic.{_≢_, ⊎-elim}
+use mathlib.Core.Bool.{true, false}
 use mathlib.Core.List.{List, [], _∷_, _++_}
 use native.Mathlib.Omega.{arith}
-use lib.ListN.{length, getD, take, drop, replicate, length-append, length-replicate, getD-replicate, List·getD-append}
-use lib.Seq.{getD-take, drop-at}
-use lib.Dec.{leb}
-use borrow.Author.Tests.{eq-eqb, eqb-true, ltb-true, lt-ltb, le-leb, lt-leb}
+use borrow.Author.Tests.{eq-eqb, eqb-true, ltb-true, lt-ltb}
+use lib.ListN.{length, getD, drop, replicate, length-replicate, getD-replicate, List·getD-append}
+use lib.Seq.{drop-at}
 use Rattle.machine.specs.declared.Refusal.{Refusal}
 use Rattle.machine.specs.declared.Refusal.the-variants.{Sizes, Registers, Chain, Roles}
-use Rattle.machine.specs.Layout.{Image, fixed, field, heapMost, stackMost, trailMost, argumentsMost}
+use Rattle.machine.specs.Layout.{Image}
 use Rattle.machine.specs.Chains.{Fault, whole, broken, walk, faultOf}
-use Rattle.machine.specs.Roles.{Role, cell, CL, CE, own, codeOf, has, isCell, isField, conflict}
-use Rattle.machine.specs.Refusals.{Verdict, accepted, refused, nowhere, gate, scan, orElse, firstOf, workWords, enough, fits, chainCheck, cellChecks, entryChecks, imageChecks, checks, verdict}
-use Rattle.machine.specs.Answers.{verdictOf, pickWords, workAfter}
-use Rattle.machine.proofs.Tests.{same-bool, true-false}
+use Rattle.machine.specs.Roles.{Role, cell, CL, CE, own, codeOf, isCell, isField, conflict, noteAt}
+use Rattle.machine.specs.Refusals.{Verdict, refused, nowhere, scan, orElse, firstOf, workWords, enough, fits, chainCheck, cellChecks, entryChecks, imageChecks, verdict}
+use Rattle.machine.specs.Answers.{verdictOf, workAfter}
+use Rattle.machine.proofs.Tests.{same-bool}
 use Rattle.machine.proofs.Chains.{role-low}
 use Rattle.machine.proofs.Walks.{whole-linked}
-use Rattle.machine.proofs.Roles.{has-is, is-has, field-iff, same-role}
-use Rattle.machine.proofs.Firsts.{first-skips, first-refuses, passes-gate, refuses-gate, refused-not, scan-any, scan-passes, else-passes, else-refuses}
+use Rattle.machine.proofs.Roles.{has-is, is-has, field-iff}
+use Rattle.machine.proofs.Firsts.{first-skips, passes-gate, refuses-gate, refused-not, scan-any, scan-passes, else-passes, else-refuses, else-assoc, first-given}
 use Rattle.machine.proofs.Checks.{enough-iff, fits-iff}
-use Rattle.machine.proofs.Accepted as facts
-use Rattle.chains.specs.Notes.{Shows, noteAt, several, Walks, Noted}
+use Rattle.machine.proofs.Injective.{refusal-refuses}
+use Rattle.machine.proofs.Works.{clearedTo, uses-all, lent-cleared}
+use Rattle.machine.proofs.Parts.{front-at}
+use Rattle.chains.specs.Notes.{several, Walks, Noted}
 use Rattle.chains.proofs.Conflicts.{noted-of-walk, conflict-of-walk, apart-of-walk}
 use Rattle.cells.specs.declared.Checked.{Checked}
 use Rattle.cells.specs.declared.Checked.the-variants.{Passed, Refused}
 use Rattle.cells.specs.Cells.{checkedTo, notesCell, notesField, Right}
-use Rattle.cells.proofs.Areas.{refusal-refuses}
-use Rattle.admit.specs.Admits.{Admitted, Admits, Blanked, WordsNoted, ChecksWords, ChecksImage, lengthsPass}
+use Rattle.admit.specs.Admits.{Admits, Blanked, WordsNoted, ChecksWords, ChecksImage, lengthsPass}
 
 -- ---- verdicts one after the other
-
-else-assoc : (u v w : Verdict) → orElse (orElse u v) w ≡ orElse u (orElse v w)
-unfolding orElse
-else-assoc accepted v w = refl
-else-assoc (refused n p) v w = refl
 
 pub cells-then : (X : Image) (later : List Verdict) → firstOf (cellChecks X later) ≡ orElse (firstOf (cellChecks X [])) (firstOf later)
 unfolding firstOf orElse
 cells-then X later = sym (simp else-assoc)
-
--- ---- lengths and registers
-
-module _ (control stack heap trail work : ℕ) where
-  pub heap-long : heapMost < heap → lengthsPass control stack heap trail work ≡ false
-  unfolding lengthsPass
-  heap-long l = rw (lt-leb heap heapMost l)
-
-  module _ (h : heap ≤ heapMost) where
-    pub stack-long : stackMost < stack → lengthsPass control stack heap trail work ≡ false
-    unfolding lengthsPass
-    stack-long l = rw (le-leb heap heapMost h, lt-leb stack stackMost l)
-
-    module _ (s : stack ≤ stackMost) where
-      pub trail-long : trailMost < trail → lengthsPass control stack heap trail work ≡ false
-      unfolding lengthsPass
-      trail-long l = rw (le-leb heap heapMost h, le-leb stack stackMost s, lt-leb trail trailMost l)
-
-      module _ (t : trail ≤ trailMost) where
-        pub control-short : control < fixed → lengthsPass control stack heap trail work ≡ false
-        unfolding lengthsPass
-        control-short l = rw (le-leb heap heapMost h, le-leb stack stackMost s, le-leb trail trailMost t, lt-leb fixed control l)
-
-        pub control-long : fixed ≤ control → fixed + argumentsMost < control → lengthsPass control stack heap trail work ≡ false
-        unfolding lengthsPass
-        control-long k l = rw (le-leb heap heapMost h, le-leb stack stackMost s, le-leb trail trailMost t, le-leb fixed control k, lt-leb control (fixed + argumentsMost) l)
-
-        pub work-left : fixed ≤ control → control ≤ fixed + argumentsMost → lengthsPass control stack heap trail work ≡ leb (heap + stack) work
-        unfolding lengthsPass
-        work-left k l = rw (le-leb heap heapMost h, le-leb stack stackMost s, le-leb trail trailMost t, le-leb fixed control k, le-leb control (fixed + argumentsMost) l)
-
-pub registers : (X : Image) (control : List ℕ) (heap trail : ℕ) → X .control ≡ control → length (X .heap) ≡ heap → length (X .trail) ≡ trail → fits X ≡ (leb (getD control 4 0) trail && (leb (getD control 5 0) heap && leb (fixed + getD control 6 0) (length control)))
-unfolding fits field
-registers X control heap trail e f g =
-    ap (λ (c : List ℕ). leb (getD c 4 0) (length (X .trail)) && (leb (getD c 5 0) (length (X .heap)) && leb (fixed + getD c 6 0) (length c))) e
-    ∙ ap (λ (h : ℕ). leb (getD control 4 0) (length (X .trail)) && (leb (getD control 5 0) h && leb (fixed + getD control 6 0) (length control))) f
-    ∙ ap (λ (t : ℕ). leb (getD control 4 0) t && (leb (getD control 5 0) heap && leb (fixed + getD control 6 0) (length control))) g
 
 -- ---- words
 
@@ -133,7 +91,7 @@ module _ (X : Image) (work : List ℕ) where
 
   pub registers-stop : fits X ≡ false → ChecksImage X work (Refused Registers) work
   unfolding verdictOf
-  registers-stop f = stopped Registers (sym (first-refuses _ _ (λ q. refused-not 2 nowhere (sym (refuses-gate _ _ f) ∙ q)) ∙ refuses-gate _ _ f)) refl refl
+  registers-stop f = stopped Registers (sym (first-given _ _ (refuses-gate _ _ f))) refl refl
 
   module _ (f : fits X ≡ true) (work′ : List ℕ) where
     registers-pass : firstOf (imageChecks X) ≡ firstOf (chainCheck (faultOf X (walk X)) ∷ scan (conflict X) (length (X .stack)) (λ i. refused 4 nowhere) ∷ cellChecks X (entryChecks X))
@@ -146,8 +104,7 @@ module _ (X : Image) (work : List ℕ) where
     pub chain-stop : Walks X work (length (X .heap)) false work′ → ChecksImage X work (Refused Chain) work′
     unfolding verdictOf
     chain-stop w =
-        let c = not-whole (faultOf X (walk X)) (w .broken refl) in
-        stopped Chain (sym (registers-pass ∙ first-refuses _ _ (λ q. refused-not 3 nowhere (sym c ∙ q)) ∙ c)) (w .after) (w .same)
+        stopped Chain (sym (registers-pass ∙ first-given _ _ (not-whole (faultOf X (walk X)) (w .broken refl)))) (w .after) (w .same)
 
     module _ (w : Walks X work (length (X .heap)) true work′) where
       chain-pass : firstOf (imageChecks X) ≡ firstOf (scan (conflict X) (length (X .stack)) (λ i. refused 4 nowhere) ∷ cellChecks X (entryChecks X))
@@ -157,7 +114,7 @@ module _ (X : Image) (work : List ℕ) where
       unfolding verdictOf
       roles-stop i l m =
           let c = scan-any (conflict X) (length (X .stack)) (refused 4 nowhere) i l (conflict-of-walk X work′ (length (X .heap)) (w .noted refl) i l m) in
-          stopped Roles (sym (chain-pass ∙ first-refuses _ _ (λ q. refused-not 4 nowhere (sym c ∙ q)) ∙ c)) (w .after) (w .same)
+          stopped Roles (sym (chain-pass ∙ first-given _ _ c)) (w .after) (w .same)
 
       module _ (few : (i : ℕ) → i < length (X .stack) → noteAt work′ (length (X .heap)) i < several) where
         pub noted : Noted X work′ (length (X .heap))
@@ -172,8 +129,7 @@ module _ (X : Image) (work : List ℕ) where
         }
 
         front : Blanked X work → (x : ℕ) → x < length (X .heap) → getD work′ x 0 ≡ 0
-        front b x l =
-            sym (getD-take (length (X .heap)) work′ x 0 l) ∙ ap (λ (r : List ℕ). getD r x 0) (w .before) ∙ getD-take (length (X .heap)) work x 0 l ∙ b .blank x (omega arith)
+        front b x l = front-at (length (X .heap)) work′ work (w .before) x l ∙ b .blank x (omega arith)
 
         pub words-checked : {r : Checked} → Blanked X work → ChecksWords X r → ChecksImage X work r work′
         words-checked b c = record {
@@ -189,15 +145,11 @@ pub lengths-enough : (X : Image) (work : List ℕ) → lengthsPass (length (X .c
 unfolding lengthsPass enough Rattle.machine.specs.Refusals.legalSizes
 lengths-enough X work = refl
 
--- work words that are cleared
-abbrev pub clearedTo : Image → List ℕ → List ℕ
-clearedTo X work = take 0 work ++ (replicate (workWords X - 0) 0 ++ drop (workWords X) work)
-
 module _ (X : Image) (work : List ℕ) where
   pub sizes-stop : enough (length work) X ≡ false → Admits X work (Refused Sizes) work
   unfolding checkedTo verdictOf verdict workAfter
   sizes-stop e =
-      let v : verdict (length work) X ≡ refused 1 nowhere = first-refuses _ _ (λ q. refused-not 1 nowhere (sym (refuses-gate _ _ e) ∙ q)) ∙ refuses-gate _ _ e in
+      let v : verdict (length work) X ≡ refused 1 nowhere = first-given _ _ (refuses-gate _ _ e) in
       record {
         gives = sym v;
         passed = λ q. absurd (refused-not 1 nowhere (sym v ∙ q));
@@ -208,11 +160,8 @@ module _ (X : Image) (work : List ℕ) where
     zero-front : (n : ℕ) (ys : List ℕ) → drop n (replicate n 0 ++ ys) ≡ ys
     zero-front n ys = drop-at (replicate n 0) ys n (length-replicate n 0)
 
-    minus : workWords X - 0 ≡ workWords X
-    minus = omega arith
-
     pub cleared-rest : drop (workWords X) (clearedTo X work) ≡ drop (workWords X) work
-    cleared-rest = rw minus (zero-front (workWords X) (drop (workWords X) work))
+    cleared-rest = rw (uses-all X) (zero-front (workWords X) (drop (workWords X) work))
 
     pub blanked : (work′ : List ℕ) → work′ ≡ clearedTo X work → length work′ ≡ length work → Blanked X work′
     blanked work′ q l =
@@ -220,7 +169,7 @@ module _ (X : Image) (work : List ℕ) where
         record {
           sizes = s .0;
           room = omega (arith, s .1, l);
-          blank = λ j m. rw (q, minus) (List·getD-append (replicate (workWords X) 0) (drop (workWords X) work) 0 j (rw (length-replicate {A = ℕ} (workWords X) 0) m) ∙ getD-replicate (workWords X) j 0 0 m);
+          blank = λ j m. rw (q, uses-all X) (List·getD-append (replicate (workWords X) 0) (drop (workWords X) work) 0 j (rw (length-replicate {A = ℕ} (workWords X) 0) m) ∙ getD-replicate (workWords X) j 0 0 m);
         }
 
     same-verdict : firstOf (imageChecks X) ≡ verdict (length work) X
@@ -243,11 +192,11 @@ module _ (X : Image) (work : List ℕ) where
           }
 
       pub admits-refused : {r : Refusal} (work″ last : List ℕ) → ChecksImage X work′ (Refused r) work″ → last ≡ clearedTo X work″ → Admits X work (Refused r) last
-      unfolding checkedTo workAfter
+      unfolding checkedTo
       admits-refused {r} work″ last c z =
           let v = c .gives ∙ same-verdict in
           record {
             gives = v;
             passed = λ y. absurd (refusal-refuses r (v ∙ y));
-            refused = λ y. z ∙ rw (minus, e) (ap (λ (t : List ℕ). replicate (workWords X) 0 ++ t) (c .rest ∙ behind));
+            refused = λ y. z ∙ lent-cleared X work work″ e (c .rest ∙ behind);
           }

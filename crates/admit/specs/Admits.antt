@@ -3,12 +3,12 @@
 use Prim.Native.Nat.{ℕ, _+_, _≤_, _<_}
 use mathlib.Core.Path.{_≡_}
 use mathlib.Core.Logic.{_≢_}
-use mathlib.Core.Bool.{Bool, true, false, _&&_}
-use mathlib.Core.List.{List, []}
+use mathlib.Core.Bool.{Bool, _&&_}
+use mathlib.Core.List.{List}
 use lib.ListN.{length, getD, drop}
 use lib.Dec.{leb}
 use Rattle.machine.specs.Layout.{Image, fixed, heapMost, stackMost, trailMost, argumentsMost}
-use Rattle.machine.specs.Refusals.{Verdict, accepted, workWords, firstOf, cellChecks, entryChecks, imageChecks, verdict}
+use Rattle.machine.specs.Refusals.{accepted, workWords, firstOf, cellChecks, entryChecks, imageChecks, verdict}
 use Rattle.machine.specs.Answers.{workAfter}
 use Rattle.machine.proofs.Accepted.{Sizes, Fits}
 use Rattle.chains.specs.Notes.{Noted}

@@ -10,14 +10,10 @@ use machine::STACK_MOST;
 use machine::T;
 use machine::TRAIL_MOST;
 ghost use mathlib.Core.Path.{_≡_};
-ghost use mathlib.Core.Bool.{true, false};
-ghost use Prim.Native.Nat.{ℕ, _+_, _≤_};
-ghost use mathlib.Core.List.{List};
+ghost use Prim.Native.Nat.{_≤_};
 ghost use lib.ListN.{length};
 ghost use Rattle.machine.specs.Layout.{Image, fixed};
 ghost use Rattle.machine.specs.Refusals.{fits};
-ghost use Rattle.machine.proofs.Accepted.{Sizes};
-ghost use Rattle.cells.specs.Cells.{checkedTo};
 ghost use Rattle.admit.specs.Admits.{Admits, lengthsPass, Blanked, ChecksWords, ChecksImage, WordsNoted};
 
 // Refusal 1 does not apply to areas of these lengths.

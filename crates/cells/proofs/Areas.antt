@@ -1,18 +1,15 @@
 -- The three areas under one number: an area in which a place is found gives the refusal, one in which none is found gives way to the
 -- next. Assumes nothing.
 use Prim.Native.Nat.{ℕ, _+_, _≤_, _<_}
-use mathlib.Core.Path.{_≡_, refl, sym, _∙_}
+use mathlib.Core.Path.{_≡_, sym, _∙_}
 use mathlib.Core.Logic.{_≢_}
 use mathlib.Core.Bool.{Bool, false}
 use mathlib.Core.List.{List, [], _∷_}
 use native.Mathlib.Omega.{arith}
 use Rattle.machine.specs.declared.Area.the-variants.{Heap, Stack, Control}
-use Rattle.machine.specs.declared.Refusal.{Refusal}
-use Rattle.machine.specs.declared.Refusal.the-variants.{Sizes, Registers, Chain, Roles, Bits, Reference, Entry, NoChoicePoint, ControlShort}
 use Rattle.machine.specs.Layout.{fixed}
 use Rattle.machine.specs.Refusals.{inArea, Verdict, accepted, refused, first, scan, orElse, firstOf}
-use Rattle.machine.specs.Answers.{verdictOf}
-use Rattle.machine.proofs.Firsts.{first-from, refused-not, scan-passes, scan-first, scan-end, first-skips, first-refuses, all-first}
+use Rattle.machine.proofs.Firsts.{first-from, refused-not, scan-passes, scan-first, scan-end, first-skips, first-refuses, all-first, else-assoc}
 use Rattle.cells.specs.Cells.{inAreas}
 
 -- one area, of which the first bad index is in hand
@@ -34,13 +31,7 @@ module _ (number : ℕ) (p : ℕ → Bool) (h : ℕ) (q : ℕ → Bool) (count :
   -- what comes later is asked where they pass
   pub areas-then : (later : List Verdict) → firstOf (inAreas number p h q count r n later) ≡ orElse (firstOf (inAreas number p h q count r n [])) (firstOf later)
   unfolding inAreas firstOf orElse
-  areas-then later = three (scan p h (λ i. refused number (inArea Heap i))) (scan q count (λ i. refused number (inArea Stack i))) (scan r n (λ i. refused number (inArea Control (fixed + i)))) (firstOf later)
-    where
-      three : (v u w z : Verdict) → orElse v (orElse u (orElse w z)) ≡ orElse (orElse v (orElse u (orElse w accepted))) z
-      three (refused k l) u w z = refl
-      three accepted (refused k l) w z = refl
-      three accepted accepted (refused k l) z = refl
-      three accepted accepted accepted z = refl
+  areas-then later = sym (simp else-assoc)
 
   module _ {x : ℕ} (e : x ≡ first p 0 h) where
     pub found-heap : x < h → refused number (inArea Heap x) ≡ firstOf (inAreas number p h q count r n [])
@@ -60,16 +51,3 @@ module _ (number : ℕ) (p : ℕ → Bool) (h : ℕ) (q : ℕ → Bool) (count :
         pub found-none : n ≤ a → accepted ≡ firstOf (inAreas number p h q count r n [])
         unfolding inAreas
         found-none k = sym (passes p h _ _ e l ∙ passes q count _ _ f m ∙ passes r n _ _ g k ∙ all-first [] tt)
-
--- what the code names a refusal is one
-pub refusal-refuses : (r : Refusal) → verdictOf r ≢ accepted
-unfolding verdictOf
-refusal-refuses Sizes = refused-not _ _
-refusal-refuses Registers = refused-not _ _
-refusal-refuses Chain = refused-not _ _
-refusal-refuses Roles = refused-not _ _
-refusal-refuses (Bits p) = refused-not _ _
-refusal-refuses (Reference p) = refused-not _ _
-refusal-refuses (Entry p) = refused-not _ _
-refusal-refuses NoChoicePoint = refused-not _ _
-refusal-refuses ControlShort = refused-not _ _

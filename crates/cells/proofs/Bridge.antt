@@ -1,7 +1,7 @@
 -- From the words with their notes to the image: where the notes are right, each test of the code agrees with the table's test at every
 -- index that it is asked of, so both scans give the same verdict. Assumes nothing.
-use Prim.Native.Nat.{ℕ, zero, suc, _+_, _-_, _≤_, _<_}
-use mathlib.Core.Path.{_≡_, refl, sym, ap, ap₂, _∙_, subst₃}
+use Prim.Native.Nat.{ℕ, _+_, _-_, _<_}
+use mathlib.Core.Path.{_≡_, sym, ap, ap₂, _∙_, subst₃}
 use mathlib.Core.Bool.{Bool, _&&_, _||_, not}
 use mathlib.Core.List.{List, [], _∷_}
 use native.Mathlib.Omega.{arith}
@@ -9,26 +9,15 @@ use native.Mathlib.Decide.{decLt}
 use borrow.Author.Tests.{lt-ltb, le-ltb}
 use lib.ListN.{length, getD}
 use lib.Dec.{eqb, leb, ltb}
-use Rattle.cell.specs.Word.{pick, VAR, valueOf, tagOf, stackBase, inHeap}
+use Rattle.cell.specs.Word.{VAR, valueOf, tagOf, stackBase, inHeap}
 use Rattle.machine.specs.declared.Area.the-variants.{Trail}
 use Rattle.machine.specs.Layout.{Image, H, N, T, reg, field, argument, word}
 use Rattle.machine.specs.Roles.{isCell, isField}
-use Rattle.machine.specs.Refusals.{inArea, Verdict, refused, gate, first, scan, orElse, firstOf, marked, refersWell, namesCell, badHeap, badStack, badControl, goodEntry, badEntry, cellChecks, entryChecks}
+use Rattle.machine.specs.Refusals.{inArea, Verdict, refused, scan, orElse, firstOf, marked, refersWell, namesCell, badHeap, badStack, badControl, goodEntry, badEntry, cellChecks, entryChecks}
 use Rattle.machine.proofs.Tests.{not-so}
+use Rattle.machine.proofs.Firsts.{scan-same}
 use Rattle.cells.specs.Cells.{notesCell, notesField, namesNoted, wellOnStack, wellEntry, markedIn, markedCell, markedArgument, wrongHeap, wrongStack, wrongArgument, wrongEntry, inAreas, markedChecks, wrongChecks, Right}
 use Rattle.cells.proofs.Areas.{areas-then}
-
--- ---- predicates that agree give one scan
-
-first-same : (p q : ℕ → Bool) (i n : ℕ) → ((j : ℕ) → i ≤ j → j < i + n → p j ≡ q j) → first p i n ≡ first q i n
-unfolding first
-first-same p q i zero f = refl
-first-same p q i (suc n) f =
-    ap₂ (λ (b : Bool) (m : ℕ). pick b i m) (f i (omega arith) (omega arith)) (first-same p q (suc i) n (λ j a b. f j (omega arith) (omega arith)))
-
-pub scan-same : (p q : ℕ → Bool) (n : ℕ) (refusal : ℕ → Verdict) → ((j : ℕ) → j < n → p j ≡ q j) → scan p n refusal ≡ scan q n refusal
-unfolding scan
-scan-same p q n refusal f = ap (λ (m : ℕ). gate (leb n m) (refusal m)) (first-same p q 0 n (λ j a b. f j (omega arith)))
 
 -- ---- the tests with right notes
 

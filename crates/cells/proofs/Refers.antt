@@ -1,25 +1,61 @@
 -- The tests of a word and of an entry case by case, as the code comes to them. Assumes nothing.
 use Prim.Native.Nat.{ℕ, _+_, _-_, _≤_, _<_}
 use mathlib.Core.Path.{_≡_, refl, sym, ap, _∙_}
-use mathlib.Core.Logic.{_≢_}
+use mathlib.Core.Logic.{_≢_, _↔_}
 use mathlib.Core.Bool.{Bool, true, false, _&&_, _||_, not}
 use mathlib.Core.List.{List}
 use native.Mathlib.Omega.{arith}
-use native.Mathlib.Decide.{decLt}
-use borrow.Author.Tests.{eq-eqb, ne-eqb, lt-ltb, le-ltb, le-leb, lt-leb}
+use native.Mathlib.Decide.{decLt, ℕ-discrete}
+use borrow.Author.Tests.{eq-eqb, ne-eqb, lt-ltb, le-ltb, le-leb, lt-leb, leb-false}
 use lib.ListN.{getD}
 use lib.Dec.{eqb, leb, ltb}
 use Rattle.cell.specs.Word.{VAR, STRUCT, LIST, CONST, valueOf, tagOf, bitsOf, stackBase, arityOf, extent}
 use Rattle.cell.proofs.Words.{extent-heap-var, extent-struct, extent-list}
 use Rattle.machine.specs.Layout.{heapMost}
-use Rattle.machine.specs.Roles.{cell, codeOf}
+use Rattle.machine.specs.Roles.{cell, codeOf, noteAt}
 use Rattle.machine.specs.Refusals.{marked, functorAt, refersWell}
 use Rattle.machine.proofs.Tests.{and-unless}
-use Rattle.cells.specs.Cells.{noteAt, notesCell, namesNoted, wellEntry}
+use Rattle.cells.specs.Cells.{notesCell, namesNoted, lastOf, farIn, functorWell, wellEntry}
 
 and-unit : (b : Bool) → (b && true) ≡ b
 and-unit true = refl
 and-unit false = refl
+
+module _ (heap : List ℕ) (h v : ℕ) where
+  pub no-functor : tagOf (getD heap v 0) ≢ CONST → functorWell heap h v ≡ false
+  unfolding functorWell functorAt
+  no-functor n = and-unless (leb (v + (1 + arityOf (getD heap v 0))) h) _ (λ q. rw (ne-eqb (tagOf (getD heap v 0)) CONST n))
+
+  pub no-arguments : arityOf (getD heap v 0) ≡ 0 → functorWell heap h v ≡ false
+  unfolding functorWell functorAt
+  no-arguments z = and-unless (leb (v + (1 + arityOf (getD heap v 0))) h) _ (λ q. and-unless (eqb (tagOf (getD heap v 0)) CONST) _ (λ p. lt-leb 1 (arityOf (getD heap v 0)) (omega arith)))
+
+  pub functor-well : tagOf (getD heap v 0) ≡ CONST → arityOf (getD heap v 0) ≢ 0 → {a : ℕ} → a ≡ arityOf (getD heap v 0) → functorWell heap h v ≡ leb (v + 1 + a) h
+  unfolding functorWell functorAt
+  functor-well t n {a} k =
+      let o : v + (1 + arityOf (getD heap v 0)) ≡ v + 1 + a = omega arith in
+      rw (eq-eqb (tagOf (getD heap v 0)) CONST t, le-leb 1 (arityOf (getD heap v 0)) (omega arith)) (and-unit (leb (v + (1 + arityOf (getD heap v 0))) h) ∙ ap (λ (x : ℕ). leb x h) o)
+
+module _ (w : ℕ) where
+  pub last-const : tagOf w ≡ CONST → lastOf w ≡ 0
+  unfolding lastOf
+  last-const t = rw (eq-eqb (tagOf w) CONST t)
+
+  pub last-list : tagOf w ≡ LIST → lastOf w ≡ valueOf w + 1
+  unfolding lastOf
+  last-list t = rw t
+
+  pub last-one : tagOf w ≢ CONST → tagOf w ≢ LIST → lastOf w ≡ valueOf w
+  unfolding lastOf
+  last-one t n = rw (ne-eqb (tagOf w) CONST t, ne-eqb (tagOf w) LIST n) (omega arith)
+
+  -- what refers to a cell has its value there or before
+  pub value-near : tagOf w ≢ CONST → {h : ℕ} → lastOf w < h → valueOf w < h
+  value-near t l =
+      elim (ℕ-discrete (tagOf w) LIST) [
+        | yes q ↦ omega (arith, last-list q)
+        | no q ↦ omega (arith, last-one t q)
+      ]
 
 module _ (h : ℕ) (heap : List ℕ) (w : ℕ) where
   pub const-well : tagOf w ≡ CONST → refersWell h heap w ≡ true
@@ -41,30 +77,26 @@ module _ (h : ℕ) (heap : List ℕ) (w : ℕ) where
     pub list-well : tagOf w ≡ LIST → {v : ℕ} → v ≡ valueOf w → refersWell h heap w ≡ leb (v + 2) h
     list-well l {v} e = inside ∙ rw (extent-list heap w l, ne-eqb (tagOf w) STRUCT (λ s. omega arith)) (and-unit (leb (valueOf w + 2) h) ∙ ap (λ (x : ℕ). leb (x + 2) h) (sym e))
 
-    struct-well : tagOf w ≡ STRUCT → refersWell h heap w ≡ (leb (valueOf w + (1 + arityOf (getD heap (valueOf w) 0))) h && functorAt heap (valueOf w))
-    struct-well v = inside ∙ rw (extent-struct heap w v, eq-eqb (tagOf w) STRUCT v)
-
     -- v is where the functor stands
-    module _ (s : tagOf w ≡ STRUCT) {v : ℕ} (e : v ≡ valueOf w) where
-      functor-at : refersWell h heap w ≡ (leb (v + (1 + arityOf (getD heap v 0))) h && functorAt heap v)
-      functor-at = struct-well s ∙ ap (λ (x : ℕ). leb (x + (1 + arityOf (getD heap x 0))) h && functorAt heap x) (sym e)
+    pub struct-well : tagOf w ≡ STRUCT → {v : ℕ} → v ≡ valueOf w → refersWell h heap w ≡ functorWell heap h v
+    unfolding functorWell
+    struct-well s {v} e = inside ∙ rw (extent-struct heap w s, eq-eqb (tagOf w) STRUCT s) (ap (functorWell heap h) (sym e))
 
-      pub no-functor : tagOf (getD heap v 0) ≢ CONST → refersWell h heap w ≡ false
-      unfolding functorAt
-      no-functor n = functor-at ∙ and-unless (leb (v + (1 + arityOf (getD heap v 0))) h) _ (λ q. rw (ne-eqb (tagOf (getD heap v 0)) CONST n))
+  -- where its last cell lies below h, a STRUCT refers well by its functor, and any other word does
+  module _ (l : lastOf w < h) where
+    pub near-struct : tagOf w ≡ STRUCT → {v : ℕ} → v ≡ valueOf w → refersWell h heap w ≡ functorWell heap h v
+    near-struct s = struct-well (λ e. omega arith) (value-near w (λ e. omega arith) l) s
 
-      pub no-arguments : arityOf (getD heap v 0) ≡ 0 → refersWell h heap w ≡ false
-      unfolding functorAt
-      no-arguments z =
-          functor-at
-          ∙ and-unless (leb (v + (1 + arityOf (getD heap v 0))) h) _ (λ q. and-unless (eqb (tagOf (getD heap v 0)) CONST) _ (λ p. lt-leb 1 (arityOf (getD heap v 0)) (omega arith)))
-
-      pub functor-well : tagOf (getD heap v 0) ≡ CONST → arityOf (getD heap v 0) ≢ 0 → {a : ℕ} → a ≡ arityOf (getD heap v 0) → refersWell h heap w ≡ leb (v + 1 + a) h
-      unfolding functorAt
-      functor-well t n {a} k =
-          let o : v + (1 + arityOf (getD heap v 0)) ≡ v + 1 + a = omega arith in
-          functor-at
-          ∙ rw (eq-eqb (tagOf (getD heap v 0)) CONST t, le-leb 1 (arityOf (getD heap v 0)) (omega arith)) (and-unit (leb (v + (1 + arityOf (getD heap v 0))) h) ∙ ap (λ (x : ℕ). leb x h) o)
+    pub near-well : tagOf w ≢ STRUCT → h ≤ heapMost → refersWell h heap w ≡ true
+    near-well s m =
+        elim (ℕ-discrete (tagOf w) CONST) [
+          | yes t ↦ const-well t
+          | no t ↦
+              elim (ℕ-discrete (tagOf w) LIST) [
+                | yes q ↦ list-well t (value-near w t l) q refl ∙ le-leb (valueOf w + 2) h (omega (arith, last-list w q))
+                | no q ↦ var-well t (value-near w t l) (omega arith) m
+              ]
+        ]
 
 module _ (work : List ℕ) (notes count w : ℕ) where
   pub no-var : tagOf w ≢ VAR → namesNoted work notes count w ≡ false
@@ -109,6 +141,11 @@ module _ (h count : ℕ) (work : List ℕ) (notes a : ℕ) where
             | yes o ↦ rw (lt-ltb y x o, lt-leb x y o)
             | no o ↦ rw (le-ltb y x (omega arith), le-leb x y (omega arith))
           ]
+
+-- a last cell below h
+pub near-iff : (heap : List ℕ) (h i : ℕ) → (farIn heap h i ≡ false) ↔ (lastOf (getD heap i 0) < h)
+unfolding farIn
+near-iff heap h i = (leb-false h (lastOf (getD heap i 0)), lt-leb h (lastOf (getD heap i 0)))
 
 -- bits that are set
 pub marked-set : (w : ℕ) → bitsOf w ≢ 0 → marked w ≡ true

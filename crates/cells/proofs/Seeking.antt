@@ -2,6 +2,7 @@
 -- loop that begins, goes on and ends, over every predicate. Assumes nothing.
 use Prim.Native.Nat.{ℕ, _+_, _-_, _≤_, _<_}
 use mathlib.Core.Path.{_≡_, sym, _∙_}
+use mathlib.Core.Logic.{_↔_}
 use mathlib.Core.Bool.{Bool, true, false}
 use native.Mathlib.Omega.{arith}
 use borrow.Author.Count.{below-more}
@@ -52,3 +53,10 @@ module _ {marks wrongs : ℕ → Bool} {i : ℕ} (c : Clean marks wrongs i) wher
     unmarked = λ j m. c .unmarked j (omega arith);
     well = λ j m. c .well j (omega arith);
   }
+
+-- faults are counted, an index's with the rest: there are none exactly where all are clean
+pub count-more : {marks wrongs : ℕ → Bool} {i : ℕ} (count far bits : ℕ) → (count ≡ 0) ↔ Clean marks wrongs i → (far ≡ 0) ↔ (wrongs i ≡ false) → (bits ≡ 0) ↔ (marks i ≡ false) → (count + (far + bits) ≡ 0) ↔ Clean marks wrongs (i + 1)
+count-more {i = i} count far bits so f b = (
+  λ e. clean-more (so .0 (omega arith)) (b .0 (omega arith)) (f .0 (omega arith)),
+  λ c. omega (arith, so .1 (clean-end c (omega arith)), f .1 (c .well i (omega arith)), b .1 (c .unmarked i (omega arith))),
+)

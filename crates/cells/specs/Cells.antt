@@ -6,11 +6,11 @@ use mathlib.Core.Bool.{Bool, true, false, _&&_, _||_, not}
 use mathlib.Core.List.{List, [], _∷_}
 use lib.ListN.{length, getD}
 use lib.Dec.{eqb, leb, ltb}
-use Rattle.cell.specs.Word.{VAR, valueOf, tagOf, stackBase, inHeap}
+use Rattle.cell.specs.Word.{pick, VAR, LIST, CONST, valueOf, tagOf, stackBase, inHeap, arityOf}
 use Rattle.machine.specs.declared.Area.the-variants.{Heap, Stack, Control}
 use Rattle.machine.specs.Layout.{Image, H, N, T, fixed, field, argument, heapMost, stackMost}
-use Rattle.machine.specs.Roles.{cell, codeOf, isCell, isField}
-use Rattle.machine.specs.Refusals.{inArea, Verdict, accepted, refused, scan, marked, refersWell}
+use Rattle.machine.specs.Roles.{cell, codeOf, isCell, isField, noteAt}
+use Rattle.machine.specs.Refusals.{inArea, Verdict, accepted, refused, scan, marked, functorAt, refersWell}
 use Rattle.machine.specs.Answers.{verdictOf}
 use Rattle.cells.specs.declared.Checked.{Checked}
 use Rattle.cells.specs.declared.Checked.the-variants.{Passed, Refused}
@@ -19,9 +19,6 @@ use Rattle.cells.specs.declared.Checked.the-variants.{Passed, Refused}
 unfoldable pub checkedTo : Checked → Verdict
 checkedTo Passed = accepted
 checkedTo (Refused r) = verdictOf r
-
-abbrev pub noteAt : List ℕ → ℕ → ℕ → ℕ
-noteAt work notes i = getD work (notes + i) 0
 
 abbrev pub notesCell : List ℕ → ℕ → ℕ → Bool
 notesCell work notes i = eqb (noteAt work notes i) (codeOf cell)
@@ -43,6 +40,18 @@ markedCell stack work notes i = notesCell work notes i && marked (getD stack i 0
 
 unfoldable pub markedArgument : List ℕ → ℕ → Bool
 markedArgument control i = marked (argument control 0 i)
+
+-- the last cell that a word refers to, a STRUCT's arguments not counted; 0 of a CONST, which refers to none
+unfoldable pub lastOf : ℕ → ℕ
+lastOf w = pick (eqb (tagOf w) CONST) 0 (valueOf w + pick (eqb (tagOf w) LIST) 1 0)
+
+-- the last cell of the heap cell at i is not below h
+unfoldable pub farIn : List ℕ → ℕ → ℕ → Bool
+farIn heap h i = leb h (lastOf (getD heap i 0))
+
+-- the cell at v is a functor whose arguments end at or below h
+unfoldable pub functorWell : List ℕ → ℕ → ℕ → Bool
+functorWell heap h v = leb (v + (1 + arityOf (getD heap v 0))) h && functorAt heap v
 
 unfoldable pub wrongHeap : List ℕ → ℕ → ℕ → Bool
 wrongHeap heap h i = not (refersWell h heap (getD heap i 0))

@@ -22,7 +22,7 @@ fn entry_well(h: u32, count: usize, work: &[u32], notes: usize, entry: u32) -> b
 }
 
 // The lowest such entry below t, or t.
-pub fn first_wrong_entry(
+pub(super) fn first_wrong_entry(
     trail: &[u32],
     t: usize,
     h: u32,

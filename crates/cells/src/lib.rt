@@ -1,7 +1,7 @@
-// The checks of cells and trail entries: refusals 5, 6 and 7 with their places. One pass over each area decides that all its cells are
-// good; number and place are looked for only if one is not.
+// The checks of cells and trail entries: refusals 5, 6 and 7 with their places. A pass over each area, two over the heap, decides that all
+// its cells are good; number and place are looked for only if one is not.
 mod words; // words.rt: where one word may refer to
-mod good; // good.rt: one pass, every cell is good
+mod good; // good.rt: whether every cell is good
 mod marked; // marked.rt: the lowest place for 5
 mod wrong; // wrong.rt: the lowest place for 6
 mod entries; // entries.rt: the lowest place for 7

@@ -69,7 +69,7 @@ fn first_marked_control(control: &[u32], n: usize) -> usize
 }
 
 // 5: a cell has m or f set.
-pub fn find(
+pub(super) fn find(
     control: &[u32],
     n: usize,
     stack: &[u32],

@@ -6,10 +6,26 @@ ghost use Prim.Native.Nat.{_+_, _<_, _≤_};
 ghost use lib.ListN.{length};
 ghost use Rattle.machine.specs.Layout.{heapMost, stackMost};
 ghost use Rattle.machine.specs.Refusals.{refersWell};
-ghost use Rattle.cells.specs.Cells.{namesNoted, wellOnStack};
+ghost use Rattle.cells.specs.Cells.{functorWell, namesNoted, wellOnStack};
+
+// Whether the cell at v is a functor whose arguments end at or below h.
+pub fn functor_good(heap: &[u32], h: usize, v: usize) -> bool
+    requires { ⌜ (v < h) × (h ≤ length (now heap)) × (h ≤ heapMost) ⌝ }
+    ensures { λ r. ⌜ r ≡ functorWell (now (heap .entry)) h v ⌝ }
+{
+    let functor = heap[v];
+    if cell::tag(functor) != cell::CONST {
+        return false;
+    }
+    let arity = cell::arity(functor) as usize;
+    if arity == 0 {
+        return false;
+    }
+    v + 1 + arity <= h
+}
 
 // Whether a word refers within the heap below h, and a STRUCT to a functor.
-pub fn refers_well(heap: &[u32], h: usize, word: u32) -> bool
+pub(super) fn refers_well(heap: &[u32], h: usize, word: u32) -> bool
     requires { ⌜ (h ≤ length (now heap)) × (h ≤ heapMost) ⌝ }
     ensures { λ r. ⌜ r ≡ refersWell h (now (heap .entry)) word ⌝ }
 {
@@ -27,15 +43,7 @@ pub fn refers_well(heap: &[u32], h: usize, word: u32) -> bool
     if tag == cell::LIST {
         return v + 2 <= h;
     }
-    let functor = heap[v];
-    if cell::tag(functor) != cell::CONST {
-        return false;
-    }
-    let arity = cell::arity(functor) as usize;
-    if arity == 0 {
-        return false;
-    }
-    v + 1 + arity <= h
+    functor_good(heap, h, v)
 }
 
 // Whether a word is a VAR that names a stack word which is a cell.
@@ -58,7 +66,7 @@ fn names_cell(work: &[u32], notes: usize, count: usize, word: u32) -> bool
 }
 
 // Whether the stack word at i may hold this cell.
-pub fn stack_word_well(
+pub(super) fn stack_word_well(
     heap: &[u32],
     h: usize,
     work: &[u32],
@@ -80,7 +88,7 @@ pub fn stack_word_well(
 }
 
 // Whether a saved argument of the control area may be this cell.
-pub fn argument_well(
+pub(super) fn argument_well(
     heap: &[u32],
     h: usize,
     work: &[u32],

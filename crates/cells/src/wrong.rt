@@ -80,7 +80,7 @@ fn first_wrong_control(
 }
 
 // 6: a cell refers wrongly.
-pub fn find(
+pub(super) fn find(
     control: &[u32],
     n: usize,
     stack: &[u32],

@@ -7,11 +7,11 @@ use mathlib.Core.List.{List}
 use lib.ListN.{length}
 use Rattle.machine.specs.Layout.{Image}
 use Rattle.machine.specs.Chains.{whole, walk, faultOf}
-use Rattle.machine.specs.Roles.{Role, has, conflict}
+use Rattle.machine.specs.Roles.{Role, has, conflict, noteAt}
 use Rattle.machine.proofs.Chains.{role-low}
 use Rattle.machine.proofs.Walks.{whole-linked}
 use Rattle.machine.proofs.Roles.{has-is, is-has, two-conflict, apart-iff}
-use Rattle.chains.specs.Notes.{several, Shows, noteAt, Noted}
+use Rattle.chains.specs.Notes.{several, Shows, Noted}
 use Rattle.chains.proofs.Shows.{shown-code, shown-one, shown-known, shown-few, shown-several}
 
 -- `n` is what `Walks` says of an image that is whole

@@ -9,13 +9,13 @@ use native.Mathlib.Omega.{arith}
 use lib.ListN.{length, getD}
 use Rattle.machine.specs.Layout.{Image, L, E, B, T, H, placeOf, reg, sizeOf}
 use Rattle.machine.specs.Chains.{Thing, frame, point, whole, walk, faultOf}
-use Rattle.machine.specs.Roles.{Role, gives, some, has}
+use Rattle.machine.specs.Roles.{Role, gives, some, has, noteAt}
 use Rattle.machine.proofs.Tests.{true-false}
 use Rattle.machine.proofs.Layouts.{reg-word}
 use Rattle.machine.proofs.Lists.{In, here, there, in-nil, in-cons, some-in, in-some}
 use Rattle.machine.proofs.Links.{Real, fromE, fromB, next, ok-linked}
 use Rattle.machine.proofs.Walks.{whole-lists, whole-linked, walk-real}
-use Rattle.chains.specs.Notes.{Shows, nothing, noteAt, Blank, Walks}
+use Rattle.chains.specs.Notes.{Shows, nothing, Blank, Walks}
 use Rattle.chains.specs.Noting.{Leads, byE, byB, by, Noting, Walked}
 use Rattle.chains.proofs.Shows.{shows-iff}
 use Rattle.chains.proofs.Stores.{kept-join, kept-before, kept-after}

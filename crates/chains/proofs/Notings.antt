@@ -9,12 +9,11 @@ use borrow.Author.Tests.{eqb-true}
 use lib.ListN.{length}
 use Rattle.machine.specs.Layout.{Image, L, E, B, T, H, none, at, sizeOf, sizeAt, linkAt}
 use Rattle.machine.specs.Chains.{Thing, frame, point, indexOf, whole, walk, faultOf}
-use Rattle.machine.specs.Roles.{CL, gives, some as someOf}
+use Rattle.machine.specs.Roles.{CL, gives, some as someOf, noteAt}
 use Rattle.machine.proofs.Tests.{true-false}
 use Rattle.machine.proofs.Lists.{In, here, there, in-cons, some-in}
 use Rattle.machine.proofs.Links.{Next, up, inner, back, Real, next, Ok, real-ok}
 use Rattle.machine.proofs.Walks.{whole-linked}
-use Rattle.chains.specs.Notes.{noteAt}
 use Rattle.chains.specs.Noting.{ShowsSize, Leads, byE, byB, by, Noting}
 use Rattle.chains.proofs.Things.{Adds, shown-more}
 

@@ -5,17 +5,10 @@ use mathlib.Core.Path.{_≡_, refl, sym, ap, _∙_, subst}
 use mathlib.Core.Logic.{_≢_, _⊎_, inl, inr, ⊎-elim, _↔_}
 use mathlib.Core.Bool.{true}
 use native.Mathlib.Omega.{arith}
-use Rattle.machine.specs.Roles.{Role, cell, CL, CE, own, codeOf}
-use Rattle.machine.proofs.Layouts.{place-low}
-use Rattle.machine.proofs.Roles.{code-inj}
+use Rattle.machine.specs.Roles.{Role, CL, codeOf}
+use Rattle.machine.proofs.Roles.{code-inj, code-range}
 use Rattle.chains.specs.Notes.{several, severalWithSize, Shows, nothing, single, mixed, mixedWithSize}
 use Rattle.chains.specs.Noting.{Joins}
-
-pub code-range : (r : Role) → (1 ≤ codeOf r) × (codeOf r < several)
-code-range cell = omega arith
-code-range CL = omega arith
-code-range CE = omega arith
-code-range (own f) = omega (arith, place-low f)
 
 -- the set is known by its members
 pub shows-iff : {P Q : Role → Type 0} {note : ℕ} → ((r : Role) → P r ↔ Q r) → Shows P note → Shows Q note

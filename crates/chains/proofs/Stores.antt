@@ -4,8 +4,9 @@ use mathlib.Core.Path.{_≡_, refl, sym, _∙_, subst}
 use mathlib.Core.List.{List}
 use native.Mathlib.Omega.{arith}
 use native.Mathlib.Decide.{decLt}
-use lib.ListN.{length, getD, set, take, drop, length-set, length-take, length-drop}
-use lib.Seq.{getD-set-same, getD-set-other, getD-take, getD-drop, ext-getD}
+use lib.ListN.{length, getD, set, take, drop, length-set}
+use lib.Seq.{getD-set-same, getD-set-other}
+use Rattle.machine.proofs.Parts.{front-same, rest-same}
 use Rattle.chains.specs.Noting.{Joins, Kept, Gains}
 
 module _ {a z : ℕ} where
@@ -19,24 +20,10 @@ module _ {a z : ℕ} where
   kept-wide l m k = record { outside = λ j o. k .outside j (λ p q. o (omega arith) (omega arith)); same = k .same }
 
   pub kept-before : {u v : List ℕ} → Kept a z u v → take a v ≡ take a u
-  kept-before {u} {v} k =
-      ext-getD
-      0
-      (take a v)
-      (take a u)
-      (omega (arith, length-take a v, length-take a u, k .same))
-      (λ i l.
-      let m : i < a = omega (arith, length-take a v) in
-      getD-take a v i 0 m ∙ k .outside i (λ p q. omega arith) ∙ sym (getD-take a u i 0 m))
+  kept-before {u} {v} k = front-same a v u (k .same) (λ i l. k .outside i (λ p q. omega arith))
 
   pub kept-after : {u v : List ℕ} → a ≤ z → Kept a z u v → drop z v ≡ drop z u
-  kept-after {u} {v} o k =
-      ext-getD
-      0
-      (drop z v)
-      (drop z u)
-      (omega (arith, length-drop z v, length-drop z u, k .same))
-      (λ i l. getD-drop z v i 0 ∙ k .outside (z + i) (λ p q. omega arith) ∙ sym (getD-drop z u i 0))
+  kept-after {u} {v} o k = rest-same z v u (k .same) (λ j l. k .outside j (λ p q. omega arith))
 
 module _ {f : ℕ → ℕ} where
   pub gains-none : {a : ℕ} {w : List ℕ} → Gains f a a w w

@@ -10,11 +10,11 @@ use native.Mathlib.Decide.{decLe, decLt}
 use borrow.Author.Tests.{eqb-true, leb-true}
 use Rattle.machine.specs.Layout.{Image, placeOf, fixed, frameFixed}
 use Rattle.machine.specs.Chains.{Thing, frame, point, indexOf}
-use Rattle.machine.specs.Roles.{Role, cell, CL, CE, own, gives, some, codeOf}
+use Rattle.machine.specs.Roles.{Role, cell, CL, CE, own, gives, some, codeOf, noteAt}
 use Rattle.machine.proofs.Tests.{true-false, and-left, or-cases, or-left, or-right}
 use Rattle.machine.proofs.Layouts.{place-low}
 use Rattle.machine.proofs.Things.{endOf, Holds, gives-holds, holds-gives, gives-one}
-use Rattle.chains.specs.Notes.{Shows, noteAt}
+use Rattle.chains.specs.Notes.{Shows}
 use Rattle.chains.specs.Noting.{Gains, frameRole, pointRole}
 use Rattle.chains.proofs.Shows.{shows-iff}
 use Rattle.chains.proofs.Offsets.{point-field, point-cell, frame-cell}

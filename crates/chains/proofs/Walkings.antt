@@ -9,10 +9,10 @@ use native.Mathlib.Omega.{arith}
 use lib.ListN.{length, getD}
 use Rattle.machine.specs.Layout.{Image, L, E, B, T, H, N, none, at, sizeOf, frameFixed, linkPlace}
 use Rattle.machine.specs.Chains.{Thing, frame, point, indexOf}
+use Rattle.machine.specs.Roles.{noteAt}
 use Rattle.machine.proofs.Tests.{true-false}
 use Rattle.machine.proofs.Chains.{PointOk}
 use Rattle.machine.proofs.Links.{Ok}
-use Rattle.chains.specs.Notes.{noteAt}
 use Rattle.chains.specs.Noting.{ShowsSize, Kept, FrameNoted, PointNoted, Noting, Settles, Walked}
 use Rattle.chains.proofs.Stores.{kept-none, kept-join, kept-wide}
 use Rattle.chains.proofs.Readings.{fieldIn, read-field, read-size, read-link, point-ends}

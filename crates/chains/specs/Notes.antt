@@ -5,10 +5,10 @@ use mathlib.Core.Path.{_≡_}
 use mathlib.Core.Logic.{_≢_, _⊎_, _↔_}
 use mathlib.Core.Bool.{Bool, true, false}
 use mathlib.Core.List.{List}
-use lib.ListN.{length, getD, take, drop}
+use lib.ListN.{length, take, drop}
 use Rattle.machine.specs.Layout.{Image, fixed}
 use Rattle.machine.specs.Chains.{whole, walk, faultOf}
-use Rattle.machine.specs.Roles.{Role, CL, has, codeOf}
+use Rattle.machine.specs.Roles.{Role, CL, has, codeOf, noteAt}
 
 abbrev pub several : ℕ
 several = 11
@@ -22,9 +22,6 @@ pub data Shows (set : Role → Type 0) : ℕ → Type 0 where
   single : (r : Role) → set r → ((s : Role) → set s → s ≡ r) → Shows set (codeOf r)
   mixed : (r s : Role) → set r → set s → r ≢ s → (set CL → ⊥) → Shows set several
   mixedWithSize : (r : Role) → set CL → set r → r ≢ CL → Shows set severalWithSize
-
-abbrev pub noteAt : List ℕ → ℕ → ℕ → ℕ
-noteAt work notes i = getD work (notes + i) 0
 
 -- where the notes stand and what they are before a walk
 pub record Blank (control stack work : List ℕ) (notes : ℕ) : Type 0 where

@@ -9,10 +9,10 @@ use lib.ListN.{length, getD}
 use lib.Dec.{ltb}
 use Rattle.machine.specs.Layout.{Image, P, L, E, B, T, H, fixed, none, reg, sizeOf, frameFixed}
 use Rattle.machine.specs.Chains.{Thing, frame, point, indexOf, whole, walk, faultOf}
-use Rattle.machine.specs.Roles.{Role, cell, CL, CE, own, gives, some, codeOf}
+use Rattle.machine.specs.Roles.{Role, cell, CL, CE, own, gives, some, codeOf, noteAt}
 use Rattle.machine.proofs.Lists.{In}
 use Rattle.machine.proofs.Links.{Next, Real, Ok}
-use Rattle.chains.specs.Notes.{Shows, noteAt}
+use Rattle.chains.specs.Notes.{Shows}
 
 -- the note of a set of roles becomes that of the set with one more
 pub record Joins (note role note′ : ℕ) : Type 0 where

@@ -21,8 +21,8 @@ ghost use Prim.Native.Nat.{ℕ, _+_, _<_, _≤_};
 ghost use lib.ListN.{length};
 ghost use Rattle.machine.specs.Layout.{Image, fixed, none, sizeOf, frameFixed};
 ghost use Rattle.machine.specs.Chains.{frame, point, sound};
-ghost use Rattle.machine.specs.Roles.{cell, codeOf};
-ghost use Rattle.chains.specs.Notes.{several, noteAt, Blank, Walks};
+ghost use Rattle.machine.specs.Roles.{cell, codeOf, noteAt};
+ghost use Rattle.chains.specs.Notes.{several, Blank, Walks};
 ghost use Rattle.chains.specs.Noting.{Joins, ShowsSize, Gains, FrameNoted, PointNoted, Walked};
 
 // The notes of words with several roles.
@@ -52,6 +52,16 @@ fn joined(note: u32, role: u32) -> u32
     SEVERAL
 }
 
+// The note of a word that is a cell, too. Most have no role yet or that of a cell, and one test finds both.
+fn joined_cell(note: u32) -> u32
+    ensures { λ r. ⌜ Joins note (codeOf cell) r ⌝ }
+{
+    if note <= CELL {
+        return CELL;
+    }
+    joined(note, CELL)
+}
+
 // Whether a note says that the word is a frame's CL.
 fn shows_size(note: u32) -> bool
     ensures { λ r. ⌜ ShowsSize note r ⌝ }
@@ -69,7 +79,7 @@ fn note_cells(work: &mut [u32], a: usize, z: usize)
 {
     let mut i = a;
     while i < z {
-        work[i] = joined(work[i], CELL);
+        work[i] = joined_cell(work[i]);
         i += 1;
     }
 }

@@ -1,31 +1,28 @@
 -- The passes together are the definition: the two passes over the stack and the one over the control area give `moved`, the entries that
 -- the notes keep are those that the rule keeps. By the role of each word. Assumes nothing.
-use Prim.Native.Nat.{ℕ, _+_, _-_, _≤_, _<_}
+use Prim.Native.Nat.{ℕ, _+_, _-_, _<_}
 use mathlib.Core.Path.{_≡_, refl, sym, ap, _∙_, subst}
-use mathlib.Core.Logic.{_≢_, _⊎_, inl, inr, ⊎-elim, _↔_}
-use mathlib.Core.Bool.{Bool, true, false}
+use mathlib.Core.Logic.{_≢_, ⊎-elim, _↔_}
+use mathlib.Core.Bool.{Bool, true}
 use mathlib.Core.List.{List}
 use native.Mathlib.Omega.{arith}
 use native.Mathlib.Decide.{ℕ-discrete, decLt}
 use borrow.Author.Tests.{eq-eqb, eqb-true}
 use lib.ListN.{length, getD}
 use Rattle.cell.specs.Word.{stackBase}
-use Rattle.machine.specs.Layout.{Image, Field, P, L, E, B, T, H, N, placeOf, fixed, field, reg}
-use Rattle.machine.specs.Roles.{Role, cell, CL, CE, own, codeOf, has, isCell}
+use Rattle.machine.specs.Layout.{Image, Field, P, L, E, B, T, H, N, placeOf, fixed, reg}
+use Rattle.machine.specs.Roles.{Role, cell, CL, CE, own, codeOf, noteAt}
 use Rattle.machine.specs.Reached.{Reached}
-use Rattle.machine.specs.Moved.{below, moveWord, moveEntry, each, closeUp, moveControl, moveStack, moved, Keeps, heapCell, stackCell}
-use Rattle.machine.proofs.Chains.{Is}
-use Rattle.machine.proofs.Layouts.{reg-word, place-low, place-field, fieldAt}
-use Rattle.machine.proofs.Roles.{has-is, is-has, code-inj}
-use Rattle.machine.proofs.Walks.{whole-linked}
+use Rattle.machine.specs.Moved.{below, moveWord, each, moveControl, moveStack, Keeps, heapCell, stackCell}
+use Rattle.machine.proofs.Layouts.{reg-word, place-field, fieldAt}
+use Rattle.machine.proofs.Roles.{has-is, linked-has, code-range}
 use Rattle.machine.proofs.Each.{length-each, each-at, each-is, each-same}
 use Rattle.machine.proofs.Moves.{fateOf, fated, stack-none, stack-role, control-field, control-saved, control-past}
 use Rattle.machine.proofs.Accepted.{Accepted, Entry, onHeap, onStack}
+use Rattle.chains.specs.Notes.{Noted}
 use Rattle.slide.specs.Slides.{keepsEntry, entriesOf, moveT, moveCell, moveControlWord}
 use Rattle.slide.proofs.Entries.{keeps-heap, keeps-stack}
-use Rattle.slide.proofs.Fields.{moveT-field, moveT-other}
-use Rattle.slide.proofs.Words.{move-cell, move-boundary, move-other, control-T, control-H, control-argument, control-low, control-high}
-use Rattle.chains.specs.Notes.{Noted, noteAt}
+use Rattle.slide.proofs.Words.{move-cell, move-boundary, move-other, control-T, control-H, control-argument, control-low, control-high, moveT-field, moveT-other}
 
 module _ {X : Image} (a : Accepted X) (cells : ℕ → Bool) (exact : (x : ℕ) → x < reg X H → (cells x ≡ true) ↔ Reached X x) {work : List ℕ} (noted : Noted X work (length (X .heap))) where
   -- ---- the entries
@@ -75,18 +72,12 @@ module _ {X : Image} (a : Accepted X) (cells : ℕ → Bool) (exact : (x : ℕ) 
     by-role i w (own B) e = by-other i w (λ q. omega (arith, e, q)) (λ q. omega (arith, e, q)) (λ q. omega (arith, e, q))
     by-role i w (own N) e = by-other i w (λ q. omega (arith, e, q)) (λ q. omega (arith, e, q)) (λ q. omega (arith, e, q))
 
-    code-some : (r : Role) → 0 < codeOf r
-    code-some cell = omega arith
-    code-some CL = omega arith
-    code-some CE = omega arith
-    code-some (own f) = omega arith
-
     is-moved : (i w : ℕ) → i < length (X .stack) → both i w ≡ moveStack cells entries X i w
     is-moved i w l =
         ⊎-elim
         (λ e.
         by-other i w (λ q. omega (arith, e, q)) (λ q. omega (arith, e, q)) (λ q. omega (arith, e, q))
-        ∙ sym (stack-none cells entries X i w (λ r h. omega (arith, e, code-some r, noted .role i l r .1 (is-has X (whole-linked X .1 (a .linked)) i r h)))))
+        ∙ sym (stack-none cells entries X i w (λ r h. omega (arith, e, code-range r, noted .role i l r .1 (linked-has X (a .linked) i r h)))))
         (λ q. by-role i w (q .0) (q .1) ∙ sym (stack-role cells entries X (a .linked) (a .apart) i w (q .0) (has-is X i (q .0) (noted .role i l (q .0) .0 (q .1)))))
         (noted .known i l)
 

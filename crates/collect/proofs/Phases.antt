@@ -1,28 +1,24 @@
 -- From phase to phase: what is marked and counted can be slid, and what is slid is the collection. Assumes nothing.
-use Prim.Native.Nat.{ℕ, _+_, _-_, _≤_, _<_}
-use mathlib.Core.Path.{_≡_, refl, sym, ap, _∙_, subst}
-use mathlib.Core.Logic.{_↔_}
-use mathlib.Core.Bool.{Bool, true}
+use Prim.Native.Nat.{ℕ, _+_, _-_, _≤_}
+use mathlib.Core.Path.{_≡_, ap, _∙_}
 use mathlib.Core.List.{List}
 use native.Mathlib.Omega.{arith}
 use borrow.Author.Tests.{ltb-true, lt-ltb}
-use lib.ListN.{length, getD, drop}
-use Rattle.machine.specs.declared.Collected.{Collected}
+use lib.ListN.{length, getD}
 use Rattle.machine.specs.declared.Collected.the-variants.{Done}
 use Rattle.machine.specs.Layout.{Image, T, H, reg}
 use Rattle.machine.specs.Refusals.{accepted}
-use Rattle.machine.specs.Reached.{Reached}
-use Rattle.machine.specs.Moved.{below, moveWord, moveEntry, each, closeUp, moved, CollectedTo}
-use Rattle.machine.specs.Answers.{Answer, answerOf, counted}
-use Rattle.machine.proofs.Accepted.{Accepted}
+use Rattle.machine.specs.Moved.{below, moveWord, each, closeUp, CollectedTo}
+use Rattle.machine.specs.Answers.{answerOf, counted}
 use Rattle.machine.proofs.Below.{below-le}
 use Rattle.machine.proofs.Moves.{moved-is}
+use Rattle.machine.proofs.Parts.{rest-at}
+use Rattle.counts.specs.Counts.{markedIn, Counted}
 use Rattle.mark.specs.Marks.{MarksReached}
-use Rattle.counts.specs.Counts.{markedIn, Counting, Counted}
 use Rattle.slide.specs.Slides.{entriesOf, moveCell, moveControlWord, TrailSlid}
 use Rattle.collect.specs.Phases.{Reachable, Slidable, Reaches, Closes}
 use Rattle.collect.proofs.Marking.{marks-reached}
-use Rattle.collect.proofs.Sliding.{noted-same, behind}
+use Rattle.collect.proofs.Sliding.{noted-same}
 use Rattle.collect.proofs.Joining.{exact-entries, stack-joined, control-joined}
 
 pub reaches : {X : Image} {work work₂ work₃ : List ℕ} {n : ℕ} → Reachable X work → MarksReached (X .control) (X .stack) (X .heap) work work₂ → Counted work₂ (reg X H) work₃ n → Reaches X work work₃ n
@@ -37,7 +33,7 @@ reaches {X} {work} {work₂} {work₃} {n} r m k =
         exact = λ x l. (λ e. exactly x l .0 (ltb-true 0 (getD work₂ x 0) e), λ p. lt-ltb 0 (getD work₂ x 0) (exactly x l .1 p));
         counting = k .counting;
         total = k .total;
-        noted = noted-same work₃ (length (X .heap)) (λ i. behind work work₃ (reg X H) rest (length (X .heap) + i) (omega (arith, r .accepted .fits .heap))) (r .noted);
+        noted = noted-same work₃ (length (X .heap)) (λ i. rest-at (reg X H) work₃ work rest (length (X .heap) + i) (omega (arith, r .accepted .fits .heap))) (r .noted);
       };
       rest = rest;
       same = k .same ∙ m .same;

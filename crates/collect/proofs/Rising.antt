@@ -1,11 +1,10 @@
 -- The choice points of the chain fall along the stack, and their T's with them: so the T fields rise with their index. Assumes nothing.
-use Prim.Native.Nat.{ℕ, _+_, _≤_, _<_}
-use mathlib.Core.Path.{_≡_, refl, sym, ap, _∙_, subst}
+use Prim.Native.Nat.{ℕ, _≤_}
+use mathlib.Core.Path.{_≡_, refl, subst}
 use mathlib.Core.Logic.{_≢_, _⊎_, inl, inr, ⊎-elim}
 use native.Mathlib.Omega.{arith}
-use lib.ListN.{length}
-use Rattle.machine.specs.Layout.{Image, Field, B, T, H, N, placeOf, fixed, none, reg, at}
-use Rattle.machine.proofs.Chains.{Point, newest, older, PointOk, Linked}
+use Rattle.machine.specs.Layout.{Image, B, T, none, reg, at}
+use Rattle.machine.proofs.Chains.{Point, newest, older, Linked}
 
 -- c is b or an older one
 pub data From (X : Image) (b : ℕ) : ℕ → Type 0 where

@@ -1,27 +1,26 @@
 -- An admitted and counted image can be slid, area by area: what each pass needs follows from what was checked. Assumes nothing.
-use Prim.Native.Nat.{ℕ, _+_, _-_, _≤_, _<_}
-use mathlib.Core.Path.{_≡_, refl, sym, ap, _∙_, subst}
-use mathlib.Core.Logic.{_≢_, _⊎_, inl, inr, ⊎-elim, _↔_}
-use mathlib.Core.Bool.{Bool, true, false}
+use Prim.Native.Nat.{ℕ, _+_, _≤_, _<_}
+use mathlib.Core.Path.{_≡_, refl, sym, _∙_}
+use mathlib.Core.Logic.{_≢_, inl, inr, ⊎-elim}
+use mathlib.Core.Bool.{Bool}
 use mathlib.Core.List.{List}
 use native.Mathlib.Omega.{arith}
-use lib.ListN.{length, getD, drop}
-use lib.Seq.{getD-drop}
-use Rattle.cell.specs.Word.{CONST, valueOf, tagOf, stackBase}
-use Rattle.machine.specs.Layout.{Image, Field, T, H, N, placeOf, fixed, field, reg, at, argument, word}
-use Rattle.machine.specs.Roles.{Role, cell, own, codeOf, has}
+use lib.ListN.{length, getD}
+use Rattle.machine.specs.Layout.{Image, Field, T, H, placeOf, reg, at, word}
+use Rattle.machine.specs.Roles.{Role, cell, own, codeOf, noteAt}
 use Rattle.machine.specs.Refusals.{workWords}
 use Rattle.machine.specs.Moved.{each}
-use Rattle.machine.proofs.Chains.{Point, Is, inPoint, Linked, point-bounds}
-use Rattle.machine.proofs.Layouts.{at-word, place-inj}
+use Rattle.machine.proofs.Chains.{Point, Is, inPoint, point-bounds}
+use Rattle.machine.proofs.Layouts.{at-word}
 use Rattle.machine.proofs.Roles.{has-is, code-inj}
 use Rattle.machine.proofs.Each.{length-each, each-at}
-use Rattle.machine.proofs.Accepted.{Accepted, Good, const, inside, Names, Entry, onHeap, onStack}
+use Rattle.machine.proofs.Accepted.{Accepted, Good, inside, Names}
+use Rattle.machine.proofs.Inside.{value-low, heap-entry, stack-entry}
 use Rattle.counts.specs.Counts.{Counting, Low, Movable}
 use Rattle.counts.proofs.Counting.{counting-low}
+use Rattle.chains.specs.Notes.{Noted}
 use Rattle.slide.specs.Slides.{moveT, HeapSlides, StackSlides, ControlSlides, TrailSlides}
-use Rattle.slide.proofs.Fields.{moveT-other}
-use Rattle.chains.specs.Notes.{Noted, noteAt}
+use Rattle.slide.proofs.Words.{moveT-other}
 use Rattle.collect.proofs.Rising.{trail-rises}
 
 -- notes that stay say the same
@@ -31,15 +30,8 @@ noted-same work′ notes e n = record {
   known = λ i l. ⊎-elim (λ q. inl (e i ∙ q)) (λ q. inr (q .0, e i ∙ q .1)) (n .known i l);
 }
 
--- words behind a boundary that stay are the same at each index behind it
-pub behind : (work work′ : List ℕ) (top : ℕ) → drop top work′ ≡ drop top work → (j : ℕ) → top ≤ j → getD work′ j 0 ≡ getD work j 0
-behind work work′ top e j l =
-    let q : top + (j - top) ≡ j = omega arith in
-    rw (← q) (sym (getD-drop top work′ (j - top) 0) ∙ ap (λ (r : List ℕ). getD r (j - top) 0) e ∙ getD-drop top work (j - top) 0)
-
 pub good-movable : {h : ℕ} {heap : List ℕ} {w : ℕ} → Good h heap w → Movable h w
-good-movable (const t) n l = absurd (n t)
-good-movable (inside t v e f) n l = v
+good-movable g n l = value-low g n
 
 pub names-movable : {X : Image} {w : ℕ} (h : ℕ) → Names X w → Movable h w
 names-movable h s n l = absurd (omega (arith, s .high))
@@ -90,22 +82,14 @@ module _ {X : Image} (a : Accepted X) {cells : ℕ → Bool} {work : List ℕ} (
     room = room;
     inside = a .fits .trail;
     small = omega (arith, a .fits .trail, a .sizes .trail);
-    heapEntries = λ i l m. heap-entry (getD (X .trail) i 0) m (a .trail i l);
-    stackEntries = λ i l m. stack-entry (getD (X .trail) i 0) m (a .trail i l);
+    heapEntries = λ i l m. heap-entry (a .trail i l) m;
+    stackEntries = λ i l m. stack-entry (a .trail i l) m;
     last = λ i l e. let o = owned i l T e in omega (arith, o .word-is, point-bounds X (a .linked) (o .b) (o .point) .trail);
     rising = λ i j l m e f.
         let o = owned i (omega arith) T e in
         let p = owned j m T f in
         omega (arith, o .word-is, p .word-is, trail-rises (a .linked) (o .b) (p .b) (o .point) (p .point) (omega (arith, o .place, p .place)));
   }
-    where
-      heap-entry : (e : ℕ) → e < stackBase → Entry X e → e < reg X H
-      heap-entry e m (onHeap l k) = k
-      heap-entry e m (onStack l k f) = absurd (omega arith)
-
-      stack-entry : (e : ℕ) → stackBase ≤ e → Entry X e → e - stackBase < length (X .stack)
-      stack-entry e m (onHeap l k) = absurd (omega arith)
-      stack-entry e m (onStack l k f) = k
 
   -- the T fields are done first, and no other word is touched by that
   module _ (entries : ℕ → Bool) where

@@ -1,70 +1,46 @@
--- Marks become counts one after the other: what stands below x is done, and what stands from x on is as it was. Assumes nothing.
-use Prim.Native.Nat.{ℕ, zero, suc, _+_, _-_, _*_, _/_, _%_, _≤_, _<_}
-use mathlib.Core.Path.{_≡_, refl, sym, ap, _∙_}
+-- Marks become counts one after the other, in place; what a count says of its cell. Assumes nothing.
+use Prim.Native.Nat.{ℕ, _+_, _*_, _/_, _%_, _≤_, _<_}
+use mathlib.Core.Path.{_≡_, sym, _∙_}
 use mathlib.Core.Logic.{_≢_, inl, inr}
-use mathlib.Core.Bool.{Bool, true, false}
-use mathlib.Core.List.{List, _++_}
+use mathlib.Core.Bool.{Bool}
+use mathlib.Core.List.{List}
 use native.Mathlib.Omega.{arith}
-use native.Mathlib.Decide.{ℕ-discrete}
-use native.Mathlib.Numerals.{add-one}
-use borrow.Author.Tests.{lt-ltb, le-ltb}
-use lib.ListN.{length, getD, drop, take, set, replicate, length-set}
-use lib.Seq.{getD-set-same, getD-set-other, getD-drop, drop-set-lt, drop-drop}
+use borrow.Author.Tests.{lt-ltb, le-ltb, eq-eqb, ne-eqb}
+use lib.ListN.{length, getD, set}
+use lib.Dec.{eqb}
 use Rattle.cell.specs.Word.{pick}
 use Rattle.machine.specs.Layout.{heapMost}
 use Rattle.machine.specs.Moved.{below}
 use Rattle.machine.proofs.Tests.{either}
-use Rattle.machine.proofs.Below.{below-zero, below-in, below-out, below-le}
+use Rattle.machine.proofs.Below.{below-zero, below-le, below-step}
+use Rattle.machine.proofs.Parts.{rest-same}
+use Rattle.machine.proofs.InPlace.{InPlace, in-place-none, in-place-more}
 use Rattle.counts.specs.Counts.{markedIn, Counting, Counted, Low}
 
+-- the word y becomes its count
+abbrev Becomes : List ℕ → ℕ → ℕ → ℕ → Type 0
+Becomes marks y w v = v ≡ below (markedIn marks) y * 2 + pick (markedIn marks y) 1 0
+
 -- the turn x of `count`
-pub record Turn (marks : List ℕ) (work : List ℕ) (d x : ℕ) : Type 0 where
+pub record Turn (marks work : List ℕ) (d x : ℕ) : Type 0 where
   pub total : d ≡ below (markedIn marks) x
-  pub done : (y : ℕ) → y < x → getD work y 0 ≡ below (markedIn marks) y * 2 + pick (markedIn marks y) 1 0
-  pub left : drop x work ≡ drop x marks
-  pub same : length work ≡ length marks
+  pub words : InPlace (Becomes marks) marks work x
 
 pub turn-none : (marks : List ℕ) → Turn marks marks 0 0
-turn-none marks = record {
-  total = sym (below-zero (markedIn marks));
-  done = λ y l. absurd (omega arith);
-  left = refl;
-  same = refl;
-}
+turn-none marks = record { total = sym (below-zero (markedIn marks)); words = in-place-none (Becomes marks) marks }
 
--- what stands at x has not been touched
-pub turn-at : {marks work : List ℕ} {d x : ℕ} → Turn marks work d x → getD work x 0 ≡ getD marks x 0
-turn-at {marks} {work} {d} {x} t =
-    let p = getD-drop x work 0 0 in
-    let q = getD-drop x marks 0 0 in
-    let z : x + 0 ≡ x = omega arith in
-    rw (← z) (sym p ∙ ap (λ (l : List ℕ). getD l 0 0) (t .left) ∙ q)
-
-pub below-step : (cells : ℕ → Bool) (x : ℕ) → below cells (x + 1) ≡ below cells x + pick (cells x) 1 0
-below-step cells x =
-    elim (either (cells x)) [
-      | inl e ↦ rw (add-one, e) (omega (arith, below-in cells x e))
-      | inr e ↦ rw (add-one, e) (omega (arith, below-out cells x e))
-    ]
-
-pub turn-more : {marks work : List ℕ} {d x : ℕ} → Turn marks work d x → x < length work → (k : ℕ) → k ≡ pick (markedIn marks x) 1 0 → Turn marks (set work x (d * 2 + k)) (d + k) (x + 1)
+pub turn-more : {marks work : List ℕ} {d x : ℕ} → Turn marks work d x → x < length marks → (k : ℕ) → k ≡ pick (markedIn marks x) 1 0 → Turn marks (set work x (d * 2 + k)) (d + k) (x + 1)
 turn-more {marks} {work} {d} {x} t l k e = record {
   total = omega (arith, t .total, below-step (markedIn marks) x);
-  done = λ y m.
-      elim (ℕ-discrete y x) [
-        | yes q ↦ rw q (getD-set-same work x (d * 2 + k) 0 l ∙ omega (arith, t .total))
-        | no q ↦ getD-set-other work x y (d * 2 + k) 0 q ∙ t .done y (omega arith)
-      ];
-  left = drop-set-lt (x + 1) work x (d * 2 + k) (omega arith) ∙ sym (drop-drop 1 x work) ∙ ap (drop 1) (t .left) ∙ drop-drop 1 x marks;
-  same = simp length-set (t .same);
+  words = in-place-more (Becomes marks) (t .words) l (d * 2 + k) (omega (arith, t .total));
 }
 
-pub turn-end : {marks work : List ℕ} {d x top : ℕ} → Turn marks work d x → x ≡ top → Counted marks top work d
-turn-end {marks} {work} {d} {x} {top} t e = record {
-  counting = record { at = λ y l. t .done y (omega arith) };
-  total = t .total ∙ ap (below (markedIn marks)) e;
-  rest = rw (← e) (t .left);
-  same = t .same;
+pub turn-end : {marks work : List ℕ} {d top : ℕ} → Turn marks work d top → top ≤ length marks → Counted marks top work d
+turn-end {marks} {work} {top = top} t l = record {
+  counting = record { at = λ y m. t .words .done y m (omega arith) };
+  total = t .total;
+  rest = rest-same top work marks (t .words .same) (t .words .left);
+  same = t .words .same;
 }
 
 -- a mark is counted as 1
@@ -94,10 +70,10 @@ half {cells} {top} {work} c x h =
       | inr e ↦ omega (arith, rw e at (c .at x h))
     ]
 
--- and its last bit
-pub odd : {cells : ℕ → Bool} {top : ℕ} {work : List ℕ} → Counting cells top work → (x : ℕ) → x < top → getD work x 0 % 2 ≡ pick (cells x) 1 0
-odd {cells} {top} {work} c x h =
+-- and its last bit, which says whether the cell is kept
+pub odd-cell : {cells : ℕ → Bool} {top : ℕ} {work : List ℕ} → Counting cells top work → (x : ℕ) → x < top → eqb (getD work x 0 % 2) 1 ≡ cells x
+odd-cell {cells} {top} {work} c x h =
     elim (either (cells x)) [
-      | inl e ↦ rw e (omega (arith, rw e at (c .at x h)))
-      | inr e ↦ rw e (omega (arith, rw e at (c .at x h)))
+      | inl e ↦ eq-eqb (getD work x 0 % 2) 1 (omega (arith, rw e at (c .at x h))) ∙ sym e
+      | inr e ↦ ne-eqb (getD work x 0 % 2) 1 (λ q. omega (arith, rw e at (c .at x h))) ∙ sym e
     ]

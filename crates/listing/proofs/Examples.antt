@@ -1,13 +1,12 @@
 -- The texts of document 01, 'Listing program', are what the definitions say. Assumes nothing.
 use mathlib.Core.Path.{_≡_, refl}
-use mathlib.Core.List.{List, [], _∷_}
-use Prim.Native.Nat.{ℕ}
+use mathlib.Core.List.{[], _∷_}
 use Rattle.machine.specs.declared.Area.the-variants.{Trail}
-use Rattle.machine.specs.Layout.{Image, field}
+use Rattle.machine.specs.Layout.{field}
 use Rattle.machine.specs.Refusals.{nowhere, inArea, accepted}
-use Rattle.machine.specs.Answers.{Answer}
-use Rattle.listing.specs.Decimal.{digits}
-use Rattle.listing.specs.Text.{ascii, spaced, numbers, line, keptLine, areaLines, collectedText, placeText, refusedText, fileText}
+use Rattle.text.specs.Decimal.{digits}
+use Rattle.text.specs.Line.{ascii, spaced, numbers, line}
+use Rattle.listing.specs.Text.{keptLine, areaLines, collectedText, placeText, refusedText, fileText}
 
 -- Night A collected, whole
 night-a : collectedText

@@ -1,11 +1,11 @@
 -- How long the lines of a listing can be: a space and ten digits for each word. Assumes nothing.
-use Prim.Native.Nat.{ℕ, zero, suc, _+_, _*_, _^_, _≤_, _<_}
-use mathlib.Core.Path.{_≡_, refl, sym, ap, subst}
+use Prim.Native.Nat.{ℕ, suc, _+_, _*_, _^_, _≤_, _<_}
+use mathlib.Core.Path.{sym, subst}
 use mathlib.Core.Logic.{⊎-elim}
 use mathlib.Core.List.{List, [], _∷_, _++_}
 use native.Mathlib.Omega.{arith}
 use lib.Dec.{leb}
-use lib.ListN.{length, getD, take, length-append, length-take, List·getD-eq-default}
+use lib.ListN.{length, take, length-append, length-take, List·getD-eq-default}
 use lib.Seq.{getD-take, take-length}
 use borrow.Author.Tests.{leb-true, leb-false}
 use Rattle.machine.specs.declared.Area.{Area}
@@ -13,14 +13,11 @@ use Rattle.machine.specs.declared.Area.the-variants.{Heap, Stack, Control, Trai
 use Rattle.machine.specs.Layout.{Image, T, H, N, fixed, reg}
 use Rattle.machine.proofs.Tests.{either}
 use Rattle.freeze.specs.RoundTrips.{Words, WordImage}
-use Rattle.listing.specs.Text.{ascii, spaced, numbers, line, areaLines, nameOf}
+use Rattle.text.specs.Line.{ascii, spaced, numbers, line}
+use Rattle.text.specs.Puts.{Puts, PutsShort}
+use Rattle.text.proofs.Decimals.{decimal-short}
+use Rattle.listing.specs.Text.{areaLines, nameOf}
 use Rattle.listing.specs.Lists.{wordMost}
-use Rattle.listing.specs.Puts.{Puts, PutsShort, numberMost}
-use Rattle.listing.proofs.Decimals.{decimal-short}
-
-pub number-short : (n : ℕ) → n < 2 ^ 64 → length (spaced n) ≤ numberMost
-unfolding spaced
-number-short n h = omega (arith, decimal-short 19 n (omega arith))
 
 word-short : (w : ℕ) → w < 2 ^ 32 → length (spaced w) ≤ wordMost
 unfolding spaced

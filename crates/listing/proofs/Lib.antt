@@ -1,5 +1,3 @@
-pub mod Puttings
-pub mod Decimals
 pub mod Lengths
 pub mod Listings
 pub mod OneListing

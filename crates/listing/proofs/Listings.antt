@@ -1,20 +1,18 @@
 -- What the reader of files, the collector and the lines promise, put together: the outcome of a listing in each of its three cases, and
 -- the output with the text over its front. Assumes nothing.
-use Prim.Native.Nat.{ℕ, zero, suc, _+_, _-_, _≤_, _<_, min}
+use Prim.Native.Nat.{ℕ, zero, suc, _+_, _-_, _≤_}
 use mathlib.Core.Path.{_≡_, refl, sym, ap, _∙_, subst}
 use mathlib.Core.List.{List, [], _∷_, _++_}
 use native.Mathlib.Omega.{arith}
-use lib.ListN.{length, take, drop, set, length-take, take-append-drop}
-use lib.Seq.{sets, take-all, drop-nil, length-take-le}
+use lib.ListN.{length, take, set}
+use lib.Seq.{sets, take-all, length-take-le}
 use Rattle.machine.specs.declared.Counts.{Counts}
 use Rattle.machine.specs.declared.Refusal.{Refusal}
-use Rattle.machine.specs.declared.Collected.{Collected}
 use Rattle.machine.specs.declared.Collected.the-variants as collecting
 use Rattle.machine.specs.Layout.{Image, fixed}
 use Rattle.machine.specs.declared.Refusal.the-variants.{Sizes, Registers, Chain, Roles, Bits, Reference, Entry, NoChoicePoint, ControlShort}
 use Rattle.machine.specs.Refusals.{Where, nowhere, Verdict, accepted, refused, verdict}
-use Rattle.machine.specs.Answers.{Answer, placeIn, verdictOf, answerOf, refusal, counted, workAfter, Collects}
-use Rattle.machine.specs.Moved.{CollectedTo}
+use Rattle.machine.specs.Answers.{Answer, placeIn, verdictOf, answerOf, counted, workAfter, Collects}
 use Rattle.freeze.specs.declared.AreaCounts.{AreaCounts}
 use Rattle.freeze.specs.declared.FileRefusal.{FileRefusal}
 use Rattle.freeze.specs.declared.Thawed.the-variants as thawing
@@ -24,10 +22,11 @@ use Rattle.freeze.specs.RoundTrips.{justStack}
 use Rattle.freeze.proofs.VerdictLaws.{refusal-refuses, ifAccepted-refusal}
 use Rattle.freeze.proofs.ThawLaws.{within-each, refused-answer, accepted-answer, thaws-filled}
 use Rattle.freeze.proofs.FreezeLaws.{legal-each}
-use Rattle.listing.specs.Text.{collectedText, fileText, refusedText}
-use Rattle.listing.specs.Puts.{Puts, PutsShort, verdictText, fileVerdictText}
-use Rattle.listing.specs.Lists.{thawed, taken, joined, Outcome, Outcomes, badFile, refusedImage, collected, over, lineMost, textMost, Lists, CountsBytes}
-use Rattle.listing.proofs.Puttings.{puts-same}
+use Rattle.listing.specs.Text.{collectedText}
+use Rattle.text.specs.Puts.{Puts, PutsShort}
+use Rattle.text.proofs.Puttings.{puts-same}
+use Rattle.listing.specs.Lines.{verdictText, fileVerdictText}
+use Rattle.listing.specs.Lists.{thawed, taken, joined, Outcomes, badFile, refusedImage, collected, over, lineMost, textMost, Lists, CountsBytes}
 
 -- a text put from the start is over the front
 sets-later : (o : ℕ) (os : List ℕ) (i : ℕ) (text : List ℕ) → sets (o ∷ os) (suc i) text ≡ o ∷ sets os i text

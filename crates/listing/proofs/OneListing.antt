@@ -1,16 +1,15 @@
 -- The promise of `list` fixes everything: its answer, the output, the areas and the work words. Assumes nothing.
 use Prim.Native.Nat.{ℕ, _≤_}
-use mathlib.Core.Path.{_≡_, refl, sym, ap, _∙_}
+use mathlib.Core.Path.{_≡_, sym, ap, _∙_}
 use mathlib.Core.List.{List}
 use native.Mathlib.Omega.{arith}
 use lib.ListN.{length}
 use Rattle.machine.specs.Layout.{Image}
-use Rattle.machine.specs.Refusals.{Where, accepted, refused, verdict}
+use Rattle.machine.specs.Refusals.{Where, accepted, refused}
 use Rattle.machine.specs.Answers.{workAfter}
 use Rattle.machine.proofs.Verdicts.{verdict-accepted}
 use Rattle.machine.proofs.Unique.{one-image, one-answer}
 use Rattle.freeze.specs.Verdicts as files
-use Rattle.freeze.specs.Thaw.{thawVerdict}
 use Rattle.listing.specs.Text.{fileText, refusedText, collectedText}
 use Rattle.listing.specs.Lists.{thawed, taken, joined, Outcome, Outcomes, badFile, refusedImage, collected, over, Lists}
 

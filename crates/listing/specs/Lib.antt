@@ -1,4 +1,3 @@
-pub mod Decimal
 pub mod Text
 pub mod Lists
-pub mod Puts
+pub mod Lines

@@ -1,32 +1,13 @@
 -- The text of a listing. Document 01, 'Listing program'. Assumes nothing.
 use Prim.Native.Nat.{ℕ, _+_}
-use Prim.Native.Char.{code}
-use Prim.Native.String.{String, [] as none, _∷_ as _then_}
-use mathlib.Core.List.{List, [], _∷_, _++_}
+use mathlib.Core.List.{List, [], _++_}
 use lib.ListN.{take}
 use Rattle.machine.specs.declared.Area.{Area}
 use Rattle.machine.specs.declared.Area.the-variants.{Heap, Stack, Control, Trail}
 use Rattle.machine.specs.Layout.{Image, T, H, N, fixed, reg}
 use Rattle.machine.specs.Refusals.{Where, nowhere, inArea}
 use Rattle.machine.specs.Answers.{Answer}
-use Rattle.listing.specs.Decimal.{decimal}
-
--- the bytes of a quoted text
-abbrev pub ascii : String → List ℕ
-ascii none = []
-ascii (c then s) = code c ∷ ascii s
-
--- a number after one space, and each of a row of numbers so
-unfoldable pub spaced : ℕ → List ℕ
-spaced n = ascii " " ++ decimal n
-
-unfoldable pub numbers : List ℕ → List ℕ
-numbers [] = []
-numbers (n ∷ ns) = spaced n ++ numbers ns
-
--- one line: a word, the numbers, and the byte that ends a line. "An empty area is its word alone."
-unfoldable pub line : List ℕ → List ℕ → List ℕ
-line word ns = word ++ (numbers ns ++ ascii "\n")
+use Rattle.text.specs.Line.{ascii, spaced, line}
 
 -- "First line: cells kept, dropped, entries kept, dropped."
 unfoldable pub keptLine : Answer → List ℕ

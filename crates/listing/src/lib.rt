@@ -1,11 +1,10 @@
 // The listing: a freeze file collected and written as text. What is right stands in specs/, under its sentences of document 01.
 mod lines;
-mod text;
 
 use freeze::Thawed;
 use lines::put_bad_file;
 use lines::put_collected;
-use lines::put_refusal;
+pub use lines::put_refusal;
 use machine::Collected;
 ghost use Rattle.freeze.specs.Thaw.{imageOf};
 ghost use Rattle.listing.specs.Lists.{Lists, CountsBytes};

@@ -1,8 +1,4 @@
 // The lines of a listing, each from a place of the output on.
-use crate::text::put_byte;
-use crate::text::put_bytes;
-use crate::text::put_line;
-use crate::text::put_spaced;
 use freeze::FileRefusal;
 use machine::Area;
 use machine::Counts;
@@ -12,6 +8,10 @@ use machine::N;
 use machine::Place;
 use machine::Refusal;
 use machine::T;
+use text::put_byte;
+use text::put_bytes;
+use text::put_line;
+use text::put_spaced;
 ghost use Prim.Native.Nat.{_≤_};
 ghost use mathlib.Core.List.{_++_};
 ghost use lib.ListN.{length};
@@ -20,9 +20,11 @@ ghost use Rattle.machine.specs.Refusals.{accepted, nowhere};
 ghost use Rattle.machine.specs.Answers.{placeIn, verdictOf};
 ghost use Rattle.freeze.specs.Verdicts.{verdictOf as fileVerdictOf};
 ghost use Rattle.freeze.specs.Thaw.{imageOf};
-ghost use Rattle.listing.specs.Text.{ascii, keptLine, areaLines, collectedText, nameOf, refusedText, fileText};
+ghost use Rattle.text.specs.Line.{ascii};
+ghost use Rattle.text.specs.Puts.{Puts, PutsShort};
+ghost use Rattle.listing.specs.Text.{keptLine, areaLines, collectedText, nameOf, refusedText, fileText};
 ghost use Rattle.listing.specs.Lists.{lineMost, textMost};
-ghost use Rattle.listing.specs.Puts.{Puts, PutsShort, verdictText, fileVerdictText};
+ghost use Rattle.listing.specs.Lines.{verdictText, fileVerdictText};
 
 // Cells kept and dropped, entries kept and dropped.
 pub fn put_kept(output: &mut [u8], at: usize, cells: Counts, entries: Counts) -> usize

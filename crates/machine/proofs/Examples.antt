@@ -12,19 +12,12 @@ use Rattle.machine.specs.Roles.{Role, cell, CL, CE, own, gives, some, ha
 use Rattle.machine.specs.Refusals.{nowhere, inArea, accepted, refused, first, scan, orElse, firstOf, legalSizes, enough, fits, marked, functorAt, refersWell, namesCell, badHeap, badStack, badControl, goodEntry, badEntry, verdict, stepVerdict}
 use Rattle.machine.specs.Moved.{below, moveWord, moveEntry, each, kept, closeUp, moveControl, moveStack, moved}
 use Rattle.machine.specs.Stepped.{among, undone, undoes, reset, copied, stepped}
+use Rattle.machine.specs.NightA.{night}
 
 -- what an evaluation opens
-opened : Unit {0}
+unfoldable pub opened : Unit {0}
 unfolding extent field argument word frames points walk sound faultOf gives some has isField hasRole conflict first scan orElse firstOf legalSizes enough fits marked functorAt refersWell namesCell badHeap badStack badControl goodEntry badEntry verdict stepVerdict below moveWord moveEntry each kept closeUp moveControl moveStack moved among undone undoes reset copied stepped
 opened = tt
-
-abbrev pub night : Image
-night = record {
-  control = 1 ∷ 258 ∷ 0 ∷ 4 ∷ 3 ∷ 9 ∷ 1 ∷ 2147483696 ∷ [];
-  stack = 0 ∷ 4294967295 ∷ 20 ∷ 108 ∷ 2 ∷ 258 ∷ 0 ∷ 4294967295 ∷ 0 ∷ 5 ∷ 1 ∷ 48 ∷ [];
-  heap = 124 ∷ 20524 ∷ 96 ∷ 156 ∷ 112 ∷ 28 ∷ 120 ∷ 76 ∷ 12 ∷ [];
-  trail = 2 ∷ 4 ∷ 134217731 ∷ [];
-}
 
 pub night-walk : walk night ≡ frame 0 2 12 ∷ point 4 12 3 9 ∷ frame 0 2 4 ∷ []
 unfolding opened

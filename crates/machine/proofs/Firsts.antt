@@ -1,15 +1,15 @@
 -- Laws of the table's parts: the first bad index, a check that passes or refuses, a scan, and the first refusal of a list of checks.
 -- Each follows the definition's recursion, one index or one check at a time. Assumes nothing.
 use Prim.Native.Nat.{ℕ, zero, suc, _+_, _-_, _≤_, _<_}
-use mathlib.Core.Path.{_≡_, refl, sym, ap, _∙_}
+use mathlib.Core.Path.{_≡_, refl, sym, ap, _∙_, ap₂}
 use mathlib.Core.Logic.{_≢_, inl, inr}
 use mathlib.Core.Bool.{Bool, true, false}
 use mathlib.Core.List.{List, [], _∷_}
 use native.Mathlib.Omega.{arith}
 use native.Mathlib.Decide.{ℕ-discrete, decLt}
 use borrow.Author.Tests.{leb-true, le-leb, lt-leb}
-use lib.ListN.{take, getD}
 use lib.Dec.{leb}
+use Rattle.cell.specs.Word.{pick}
 use Rattle.machine.specs.Refusals.{Where, Verdict, accepted, refused, gate, first, scan, orElse, firstOf}
 use Rattle.machine.proofs.Tests.{true-false, either}
 
@@ -71,24 +71,19 @@ module _ (bad : ℕ → Bool) where
         | inr e ↦ ap bad (first-step i n e) ∙ first-bad (suc i) n (omega (arith, first-step i n e))
       ]
 
-  -- which is all that fixes it
-  pub first-at : (i n j : ℕ) → i ≤ j → j < i + n → bad j ≡ true → ((y : ℕ) → i ≤ y → y < j → bad y ≡ false) → first bad i n ≡ j
-  first-at i n j a b e f =
-      elim (decLt (first bad i n) j) [
-        | yes l ↦ true-false (first-bad i n (omega arith)) (f (first bad i n) (first-from i n .0) l)
-        | no l ↦
-            elim (ℕ-discrete (first bad i n) j) [
-              | yes q ↦ q
-              | no q ↦ true-false e (first-before i n j a (omega arith))
-            ]
-      ]
-
   pub first-none : (i n : ℕ) → ((j : ℕ) → i ≤ j → j < i + n → bad j ≡ false) → first bad i n ≡ i + n
   first-none i n f =
       elim (decLt (first bad i n) (i + n)) [
         | yes l ↦ true-false (first-bad i n l) (f (first bad i n) (first-from i n .0) l)
         | no l ↦ omega (arith, first-from i n)
       ]
+
+-- tests that agree have the same first
+pub first-same : (bad bad′ : ℕ → Bool) (i n : ℕ) → ((j : ℕ) → i ≤ j → j < i + n → bad j ≡ bad′ j) → first bad i n ≡ first bad′ i n
+unfolding first
+first-same bad bad′ i zero f = refl
+first-same bad bad′ i (suc n) f =
+    ap₂ (λ (b : Bool) (m : ℕ). pick b i m) (f i (omega arith) (omega arith)) (first-same bad bad′ (suc i) n (λ j a b. f j (omega arith) (omega arith)))
 
 -- ---- one check
 
@@ -121,14 +116,15 @@ module _ (bad : ℕ → Bool) (n : ℕ) (refusal : ℕ → Verdict) where
   unfolding scan
   scan-end e = passes-gate (leb n (first bad 0 n)) (refusal (first bad 0 n)) (le-leb n (first bad 0 n) (omega arith))
 
-  pub scan-at : (j : ℕ) → j < n → bad j ≡ true → ((i : ℕ) → i < j → bad i ≡ false) → scan bad n refusal ≡ refusal j
-  scan-at j l e f = scan-first j (first-at bad 0 n j (omega arith) (omega arith) e (λ y a b. f y b)) l
-
   pub passes-scan : ((i : ℕ) → refusal i ≢ accepted) → scan bad n refusal ≡ accepted → (i : ℕ) → i < n → bad i ≡ false
   unfolding scan
   passes-scan v e i l =
       let q = gate-passes (leb n (first bad 0 n)) (refusal (first bad 0 n)) (v (first bad 0 n)) e in
       first-before bad 0 n i (omega arith) (omega (arith, leb-true n (first bad 0 n) q))
+
+pub scan-same : (bad bad′ : ℕ → Bool) (n : ℕ) (refusal : ℕ → Verdict) → ((j : ℕ) → j < n → bad j ≡ bad′ j) → scan bad n refusal ≡ scan bad′ n refusal
+unfolding scan
+scan-same bad bad′ n refusal f = ap (λ (m : ℕ). gate (leb n m) (refusal m)) (first-same bad bad′ 0 n (λ j a b. f j (omega arith)))
 
 -- a refusal that shows no place: any bad index will do
 pub scan-any : (bad : ℕ → Bool) (n : ℕ) (v : Verdict) (j : ℕ) → j < n → bad j ≡ true → scan bad n (λ i. v) ≡ v
@@ -157,6 +153,11 @@ unfolding orElse
 else-refuses accepted u n = absurd (n refl)
 else-refuses (refused number place) u n = refl
 
+pub else-assoc : (u v w : Verdict) → orElse (orElse u v) w ≡ orElse u (orElse v w)
+unfolding orElse
+else-assoc accepted v w = refl
+else-assoc (refused n p) v w = refl
+
 -- every check passes
 abbrev pub All : List Verdict → Type 0
 All [] = Unit {0}
@@ -170,6 +171,11 @@ pub first-refuses : (v : Verdict) (vs : List Verdict) → v ≢ accepted → fir
 unfolding firstOf
 first-refuses v vs n = else-refuses v (firstOf vs) n
 
+-- a refusal that is in hand
+pub first-given : (v : Verdict) (vs : List Verdict) {number : ℕ} {place : Where} → v ≡ refused number place → firstOf (v ∷ vs) ≡ refused number place
+unfolding firstOf orElse
+first-given v vs e = rw e
+
 pub first-all : (vs : List Verdict) → firstOf vs ≡ accepted → All vs
 unfolding firstOf
 first-all [] e = tt
@@ -178,16 +184,3 @@ first-all (v ∷ vs) e = (else-left v (firstOf vs) e, first-all vs (else-right v
 pub all-first : (vs : List Verdict) → All vs → firstOf vs ≡ accepted
 all-first [] a = unfold firstOf in refl
 all-first (v ∷ vs) a = first-skips v vs (a .0) ∙ all-first vs (a .1)
-
--- the checks before pass and this one refuses: its refusal is the verdict
-pub first-refusal : (k : ℕ) (vs : List Verdict) → All (take k vs) → getD vs k accepted ≢ accepted → firstOf vs ≡ getD vs k accepted
-first-refusal k [] a n = absurd (n refl)
-first-refusal zero (v ∷ vs) a n = first-refuses v vs n
-first-refusal (suc k) (v ∷ vs) a n = first-skips v vs (a .0) ∙ first-refusal k vs (a .1) n
-
--- one check more has passed
-pub all-more : (k : ℕ) (vs : List Verdict) → All (take k vs) → getD vs k accepted ≡ accepted → All (take (suc k) vs)
-all-more zero [] a e = tt
-all-more zero (v ∷ vs) a e = (e, tt)
-all-more (suc k) [] a e = tt
-all-more (suc k) (v ∷ vs) a e = (a .0, all-more k vs (a .1) e)

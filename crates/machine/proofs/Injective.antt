@@ -1,6 +1,7 @@
 -- The answers' numbers and values fix the enums' cases, so the contracts fix what is answered: each has an inverse. Assumes nothing.
 use Prim.Native.Nat.{ℕ, zero, suc}
 use mathlib.Core.Path.{_≡_, refl, sym, ap, _∙_}
+use mathlib.Core.Logic.{_≢_}
 use Rattle.machine.specs.declared.Area.the-variants.{Heap}
 use Rattle.machine.specs.declared.Place.{Place}
 use Rattle.machine.specs.declared.Refusal.{Refusal}
@@ -11,6 +12,7 @@ use Rattle.machine.specs.declared.Stepped.{Stepped}
 use Rattle.machine.specs.declared.Stepped.the-variants as stepping
 use Rattle.machine.specs.Refusals.{Where, nowhere, inArea, Verdict, accepted, refused}
 use Rattle.machine.specs.Answers.{placeIn, verdictOf, Answer, answerOf, StepAnswer, stepAnswerOf}
+use Rattle.machine.proofs.Firsts.{refused-not}
 
 -- the place of a `Where`; for nowhere any will do
 abbrev placeOf : Where → Place
@@ -59,6 +61,9 @@ pub verdictOf-injective : (r s : Refusal) → verdictOf r ≡ verdictOf s → r 
 verdictOf-injective r s e = sym (refusal-inverse r) ∙ ap refusalBy e ∙ refusal-inverse s
 
 -- no refusal is an acceptance
+pub refusal-refuses : (r : Refusal) → verdictOf r ≢ accepted
+refusal-refuses r e = let n = numbered r in refused-not (n .number) (n .place) (sym (n .verdict) ∙ e)
+
 abbrev collectedBy : Verdict → Answer → Collected
 collectedBy accepted a = collected.Done (record { kept = a .cellsKept; dropped = a .cellsDropped }) (record { kept = a .entriesKept; dropped = a .entriesDropped })
 collectedBy (refused number place) a = collected.Refused (refusalOf number place)

@@ -1,6 +1,7 @@
 pub mod Examples
 pub mod Tests
 pub mod Lists
+pub mod Parts
 pub mod Below
 pub mod Layouts
 pub mod Chains
@@ -9,13 +10,15 @@ pub mod Walks
 pub mod Roles
 pub mod Things
 pub mod Overlaps
-pub mod Covers
 pub mod Firsts
 pub mod Accepted
+pub mod Inside
 pub mod Checks
 pub mod Verdicts
+pub mod Works
 pub mod Words
 pub mod Each
+pub mod InPlace
 pub mod CloseUps
 pub mod Moves
 pub mod Steps

@@ -6,7 +6,7 @@ use mathlib.Core.Bool.{Bool, true, false}
 use mathlib.Core.List.{List, [], _∷_, _++_}
 use native.Mathlib.Omega.{arith}
 use Rattle.machine.specs.Layout.{Image}
-use Rattle.machine.specs.Chains.{Thing, sound, Fault, whole, broken, indexOf, faultOf}
+use Rattle.machine.specs.Chains.{Thing, sound, whole, broken, indexOf, faultOf}
 use Rattle.machine.specs.Roles.{some}
 use Rattle.machine.proofs.Tests.{true-false, either, not-so, or-cases, or-left, or-right}
 
@@ -57,9 +57,6 @@ module _ {A : Type 0} where
           | inr n ↦ or-right (test x) (some test xs) (in-some xs n q)
         ]
 
-    pub some-none : (xs : List A) → ((a : A) → In a xs → test a ≡ false) → some test xs ≡ false
-    some-none xs f = not-so (some test xs) (λ e. let r = some-in xs e in true-false (r .2) (f (r .0) (r .1)))
-
     pub none-some : {a : A} (xs : List A) → some test xs ≡ false → In a xs → test a ≡ false
     none-some {a} xs e m = not-so (test a) (λ q. true-false (in-some xs m q) e)
 
@@ -94,11 +91,3 @@ module _ (X : Image) where
         | inl q ↦ let r = broken-faulty ys i (rw q at e) in record { thing = r .thing; listed = there (r .listed); place = r .place; bad = r .bad }
         | inr q ↦ let o = rw q at e in record { thing = y; listed = here refl; place = cc; bad = q }
       ]
-
-  -- one thing that is not sound breaks the whole
-  pub unsound-broken : (xs : List Thing) {x : Thing} → In x xs → sound X x ≡ false → (i : ℕ) × (faultOf X xs ≡ broken i)
-  unsound-broken xs m q = go (faultOf X xs) refl
-    where
-      go : (f : Fault) → faultOf X xs ≡ f → (i : ℕ) × (faultOf X xs ≡ broken i)
-      go whole e = true-false (whole-sound xs e m) q
-      go (broken i) e = (i, e)

@@ -1,35 +1,40 @@
 -- The verdict is `accepted` exactly where the image is and the work words are enough; and a step back is granted exactly where 8 and 9 do
 -- not apply either. Check by check. Assumes nothing.
 use Prim.Native.Nat.{ℕ, _+_, _≤_}
-use mathlib.Core.Path.{_≡_, refl, sym, ap, _∙_}
-use mathlib.Core.Logic.{_≢_, _↔_}
-use mathlib.Core.Bool.{_&&_, not}
+use mathlib.Core.Path.{_≡_, refl, ap, _∙_}
+use mathlib.Core.Logic.{_↔_}
+use mathlib.Core.Bool.{_&&_, not, true}
 use borrow.Author.Tests.{eqb-false, ne-eqb, leb-true, le-leb, not-true}
-use lib.ListN.{length, take, getD}
+use lib.ListN.{length, getD}
 use lib.Dec.{eqb, leb}
 use Rattle.machine.specs.declared.Area.the-variants.{Heap, Stack, Control, Trail}
 use Rattle.machine.specs.Layout.{Image, B, T, H, N, fixed, none, reg, at, argument, word}
 use Rattle.machine.specs.Chains.{Fault, whole, broken, walk, faultOf}
 use Rattle.machine.specs.Roles.{cell, isCell, conflict}
-use Rattle.machine.specs.Refusals.{nowhere, inArea, Verdict, accepted, refused, firstOf, workWords, enough, fits, chainCheck, marked, badHeap, badStack, badControl, badEntry, checks, verdict, stepChecks, stepVerdict}
+use Rattle.machine.specs.Refusals.{nowhere, inArea, accepted, refused, firstOf, workWords, enough, fits, chainCheck, marked, badHeap, badStack, badControl, badEntry, checks, verdict, stepChecks, stepVerdict}
 use Rattle.machine.proofs.Tests.{and-rest, and-unless}
 use Rattle.machine.proofs.Chains.{role-low}
 use Rattle.machine.proofs.Walks.{whole-linked}
 use Rattle.machine.proofs.Roles.{has-is, is-has, apart-iff}
 use Rattle.machine.proofs.Accepted.{Accepted, Granted}
 use Rattle.machine.proofs.Checks.{enough-iff, fits-iff, bits-iff, heap-iff, stack-iff, control-iff, entry-iff}
-use Rattle.machine.proofs.Firsts.{gate-passes, passes-gate, refused-not, scan-passes, passes-scan, else-left, else-passes, else-right, All, first-all, all-first, first-refusal}
+use Rattle.machine.proofs.Firsts.{gate-passes, passes-gate, refused-not, scan-passes, passes-scan, else-left, else-passes, else-right, first-all, all-first}
 
 pub chain-passes : (f : Fault) → chainCheck f ≡ accepted → f ≡ whole
 chain-passes whole e = refl
 chain-passes (broken i) e = absurd (refused-not 3 nowhere e)
 
 module _ (lent : ℕ) (X : Image) where
+  -- refusal 1 does not apply
+  pub accepted-enough : verdict lent X ≡ accepted → enough lent X ≡ true
+  unfolding verdict
+  accepted-enough e = gate-passes (enough lent X) (refused 1 nowhere) (refused-not _ _) (first-all (checks lent X) e .0)
+
   pub verdict-accepted : verdict lent X ≡ accepted → Accepted X × (workWords X ≤ lent)
   unfolding verdict
   verdict-accepted e =
       let a = first-all (checks lent X) e in
-      let s = enough-iff X lent .0 (gate-passes (enough lent X) (refused 1 nowhere) (refused-not _ _) (a .0)) in
+      let s = enough-iff X lent .0 (accepted-enough e) in
       let w = chain-passes (faultOf X (walk X)) (a .1 .1 .0) in
       let k = whole-linked X .0 w in (
         record {
@@ -90,11 +95,6 @@ module _ (lent : ℕ) (X : Image) where
 
   pub verdict-iff : (verdict lent X ≡ accepted) ↔ (Accepted X × (workWords X ≤ lent))
   verdict-iff = (verdict-accepted, λ a. accepted-verdict (a .0) (a .1))
-
-  -- the checks before the one at k pass, and that one refuses
-  pub verdict-refuses : (k : ℕ) (v : Verdict) → All (take k (checks lent X)) → getD (checks lent X) k accepted ≡ v → v ≢ accepted → verdict lent X ≡ v
-  unfolding verdict
-  verdict-refuses k v a e n = first-refusal k (checks lent X) a (λ z. n (sym e ∙ z)) ∙ e
 
   pub step-iff : (stepVerdict lent X ≡ accepted) ↔ (Accepted X × (workWords X ≤ lent) × Granted X)
   unfolding stepVerdict

@@ -16,8 +16,8 @@ use Rattle.machine.specs.Chains.{Thing, frame, point, unless, frames, fu
 use Rattle.machine.specs.Refusals.{refused, nowhere, chainCheck}
 use Rattle.machine.proofs.Tests.{true-false}
 use Rattle.machine.proofs.Lists.{In, here, there, in-nil, in-cons, in-left, in-right, in-append, whole-sound, sound-whole, broken-faulty}
-use Rattle.machine.proofs.Chains.{Point, View, Linked}
-use Rattle.machine.proofs.Links.{Next, up, inner, back, Real, fromE, fromB, next, point-real, view-real, sound-ok, linked-iff}
+use Rattle.machine.proofs.Chains.{Linked}
+use Rattle.machine.proofs.Links.{Next, up, inner, back, Real, fromE, fromB, next, sound-ok, linked-iff}
 
 -- a list that is there unless e is none
 unless-in : {e : ℕ} {x : Thing} {xs : List Thing} → In x (unless (eqb e none) xs) → (e ≢ none) × In x xs
@@ -162,12 +162,6 @@ module _ (X : Image) where
 
   pub whole-linked : (faultOf X (walk X) ≡ whole) ↔ Linked X
   whole-linked = (λ w. linked-iff X .1 (λ x r. whole-sound X (walk X) w (whole-lists w r)), λ k. sound-whole X (walk X) (λ x m. linked-iff X .0 k x (walk-real m)))
-
-  pub walk-point : faultOf X (walk X) ≡ whole → {b : ℕ} → Point X b → (limit t h : ℕ) × In (point b limit t h) (walk X)
-  walk-point w p = let r = point-real p in (r .limit, r .t, r .h, whole-lists w (r .real))
-
-  pub walk-view : faultOf X (walk X) ≡ whole → {e k : ℕ} → View X e k → (limit : ℕ) × In (frame e k limit) (walk X)
-  walk-view w v = let r = view-real v in (r .limit, whole-lists w (r .real))
 
   -- a fault at any real link, wherever a walk meets it, is a fault of the walk
   pub fault-found : {x : Thing} → Real X x → sound X x ≡ false → (i : ℕ) × (faultOf X (walk X) ≡ broken i)

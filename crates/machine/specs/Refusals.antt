@@ -1,13 +1,13 @@
 -- The table of refusals as one definition, read from the top. Document 01, 'Refusal numbers and the order of checks'. Assumes nothing.
 use Prim.Native.Nat.{ℕ, zero, suc, _+_, _-_}
 use mathlib.Core.Bool.{Bool, true, false, _&&_, _||_, not}
-use mathlib.Core.List.{List, [], _∷_, _++_}
+use mathlib.Core.List.{List, [], _∷_}
 use lib.ListN.{length, getD}
 use lib.Dec.{eqb, leb, ltb}
 use Rattle.cell.specs.Word.{pick, VAR, STRUCT, CONST, valueOf, tagOf, bitsOf, stackBase, inHeap, arityOf, extent}
 use Rattle.machine.specs.declared.Area.{Area}
 use Rattle.machine.specs.declared.Area.the-variants.{Heap, Stack, Control, Trail}
-use Rattle.machine.specs.Layout.{Image, Field, B, T, H, N, fixed, none, reg, at, argument, word, heapMost, stackMost, trailMost, argumentsMost}
+use Rattle.machine.specs.Layout.{Image, B, T, H, N, fixed, none, reg, at, argument, word, heapMost, stackMost, trailMost, argumentsMost}
 use Rattle.machine.specs.Chains.{Fault, whole, broken, walk, faultOf}
 use Rattle.machine.specs.Roles.{isCell, isField, conflict}
 

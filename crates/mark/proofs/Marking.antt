@@ -10,12 +10,14 @@ use lib.Seq.{length-take-le, length-front, getD-take}
 use Rattle.cell.specs.Word.{Refers}
 use Rattle.machine.specs.Layout.{H, fixed, field, argument}
 use Rattle.machine.specs.Reached.{Reach, fromRoot, fromCell}
+use Rattle.machine.specs.Roles.{noteAt}
+use Rattle.machine.proofs.Parts.{rest-at}
 use Rattle.mark.specs.Marks.{Marked, Start, inControl, onStack, Markable, MarksReached}
 use Rattle.mark.specs.Pending.{Pushable, Pushed, Ready, Inside, Follows, here, next, Drained}
 use Rattle.mark.specs.Roots.{ByArgument, ByCell, PushedBelow}
 use Rattle.mark.proofs.Stacks.{grown-sound, pushed-join, pushable-part, pushable-after}
 use Rattle.mark.proofs.Drains.{blank}
-use Rattle.mark.proofs.Roots.{put-front, put-rest, rest-at}
+use Rattle.mark.proofs.Roots.{put-front, put-rest}
 
 -- some root refers to x
 record Rooted (control stack heap work : List ℕ) (x : ℕ) : Type 0 where
@@ -44,7 +46,7 @@ module _ (control stack heap work : List ℕ) where
   rooted-cases x w (onStack i l e) r = inr (record { at = i; below = l; picked = e; refers = r })
 
 -- notes that are the same pick the same cells
-module _ (stack heap work work′ : List ℕ) (same : (i : ℕ) → getD work (length heap + i) 0 ≡ getD work′ (length heap + i) 0) where
+module _ (stack heap work work′ : List ℕ) (same : (i : ℕ) → noteAt work (length heap) i ≡ noteAt work′ (length heap) i) where
   same-notes-same-cells : (x : ℕ) → ByCell stack heap work x → ByCell stack heap work′ x
   same-notes-same-cells x r = record { at = r .at; below = r .below; picked = sym (same (r .at)) ∙ r .picked; refers = r .refers }
 
@@ -61,14 +63,15 @@ module _ {control stack heap work : List ℕ} (k : Markable control stack heap w
   pub front-length : length (take h work) ≡ h
   front-length = length-take-le h work low
 
-  roots-pushable : Pushable Roots (take h work) 0
+  roots-pushable : Pushable heap Roots (take h work) 0
   roots-pushable = record {
     inside = λ x r. omega (arith, front-length, k .roots (r .root) (r .isRoot) x (r .refers));
+    deep = omega (arith, front-length, k .top);
     small = omega (arith, front-length, k .top, k .small);
     low = omega arith;
   }
 
-  pub arguments-pushable : Pushable (ByArgument control heap) (take h work) 0
+  pub arguments-pushable : Pushable heap (ByArgument control heap) (take h work) 0
   arguments-pushable = pushable-part roots-pushable (argument-rooted control stack heap work)
 
   front-clear : (x : ℕ) → Marked (take h work) x → ⊥
@@ -79,7 +82,7 @@ module _ {control stack heap work : List ℕ} (k : Markable control stack heap w
       ]
 
   -- after the saved arguments
-  module _ {m : List ℕ} {t : ℕ} (p : Pushed (ByArgument control heap) (take h work) 0 m t) where
+  module _ {m : List ℕ} {t : ℕ} (p : Pushed heap (ByArgument control heap) (take h work) 0 m t) where
     abbrev work₁ : List ℕ
     work₁ = m ++ drop h work
 
@@ -89,8 +92,8 @@ module _ {control stack heap work : List ℕ} (k : Markable control stack heap w
     arguments-keep-rest : drop h work₁ ≡ drop h work
     arguments-keep-rest = put-rest h work m low (p .same)
 
-    arguments-keep-notes : (i : ℕ) → getD work₁ (length heap + i) 0 ≡ getD work (length heap + i) 0
-    arguments-keep-notes i = rest-at h work work₁ arguments-keep-rest (length heap + i) (omega (arith, k .top))
+    arguments-keep-notes : (i : ℕ) → noteAt work₁ (length heap) i ≡ noteAt work (length heap) i
+    arguments-keep-notes i = rest-at h work₁ work arguments-keep-rest (length heap + i) (omega (arith, k .top))
 
     cells-rooted : (x : ℕ) → ByCell stack heap work₁ x → Roots x
     cells-rooted x r = cell-rooted control stack heap work x (same-notes-same-cells stack heap work₁ work arguments-keep-notes x r)
@@ -98,21 +101,21 @@ module _ {control stack heap work : List ℕ} (k : Markable control stack heap w
     arguments-front : take h work₁ ≡ m
     arguments-front = put-front h work m low (p .same)
 
-    pub cells-pushable : Pushable (ByCell stack heap work₁) (take h work₁) t
+    pub cells-pushable : Pushable heap (ByCell stack heap work₁) (take h work₁) t
     cells-pushable = rw arguments-front (pushable-part (pushable-after roots-pushable p) cells-rooted)
 
     -- after the stack's cells
-    module _ {work₂ : List ℕ} {u : ℕ} (q : PushedBelow h (ByCell stack heap work₁) work₁ t work₂ u) where
+    module _ {work₂ : List ℕ} {u : ℕ} (q : PushedBelow h heap (ByCell stack heap work₁) work₁ t work₂ u) where
       pub cells-keep-length : length work₂ ≡ length work
       cells-keep-length = q .same ∙ arguments-keep-length
 
       pub cells-keep-front : length (take h work₂) ≡ h
       cells-keep-front = length-take-le h work₂ (omega (arith, cells-keep-length, low))
 
-      roots-pushed : Pushed Roots (take h work) 0 (take h work₂) u
+      roots-pushed : Pushed heap Roots (take h work) 0 (take h work₂) u
       roots-pushed =
           pushed-join (argument-rooted control stack heap work) cells-rooted either p
-          (subst (λ (l : List ℕ). Pushed (ByCell stack heap work₁) l t (take h work₂) u) arguments-front (q .front))
+          (subst (λ (l : List ℕ). Pushed heap (ByCell stack heap work₁) l t (take h work₂) u) arguments-front (q .front))
         where
           either : (x : ℕ) → Roots x → ByArgument control heap x ⊎ ByCell stack heap work₁ x
           either x r =

@@ -1,12 +1,12 @@
 -- Pushing what the roots refer to, one root after the other; the first h work words lent and come back. Assumes nothing.
-use Prim.Native.Nat.{ℕ, _+_, _-_, _≤_}
-use mathlib.Core.Path.{_≡_, sym, ap, _∙_, subst}
+use Prim.Native.Nat.{ℕ, _+_, _≤_}
+use mathlib.Core.Path.{_≡_, sym, _∙_, subst}
 use mathlib.Core.Logic.{_⊎_, inl, inr, ⊎-elim}
 use mathlib.Core.List.{List, _++_}
 use native.Mathlib.Omega.{arith}
 use native.Mathlib.Decide.{ℕ-discrete}
 use lib.ListN.{getD, length, take, drop}
-use lib.Seq.{length-take-le, length-front, take-at, drop-at, getD-drop}
+use lib.Seq.{length-take-le, length-front, take-at, drop-at}
 use Rattle.cell.specs.Word.{Refers}
 use Rattle.mark.specs.Pending.{Pushed}
 use Rattle.mark.specs.Roots.{Named, PushedBelow}
@@ -25,9 +25,9 @@ module _ {heap words : List ℕ} {Is : ℕ → Type 0} where
         | no q ↦ inl (record { at = r .at; below = omega (arith, r .below); picked = r .picked; refers = r .refers })
       ]
 
-  module _ {marks m : List ℕ} {top t n : ℕ} (p : Pushed (Named heap words Is n) marks top m t) where
+  module _ {marks m : List ℕ} {top t n : ℕ} (p : Pushed heap (Named heap words Is n) marks top m t) where
     -- the word n is a root: what it refers to is pushed
-    pub named-more : {m′ : List ℕ} {t′ : ℕ} → Is n → Pushed (Refers heap (getD words n 0)) m t m′ t′ → Pushed (Named heap words Is (n + 1)) marks top m′ t′
+    pub named-more : {m′ : List ℕ} {t′ : ℕ} → Is n → Pushed heap (Refers heap (getD words n 0)) m t m′ t′ → Pushed heap (Named heap words Is (n + 1)) marks top m′ t′
     named-more is q =
         pushed-join
         (wider n)
@@ -37,7 +37,7 @@ module _ {heap words : List ℕ} {Is : ℕ → Type 0} where
         q
 
     -- the word n is no root
-    pub named-skip : (Is n → ⊥) → Pushed (Named heap words Is (n + 1)) marks top m t
+    pub named-skip : (Is n → ⊥) → Pushed heap (Named heap words Is (n + 1)) marks top m t
     named-skip no-root = pushed-iff (wider n) (λ x r. ⊎-elim (λ a. a) (λ b. absurd (no-root (b .0))) (narrower n x r)) p
 
 -- ---- the first h words of `work` are lent, and come back as m
@@ -49,18 +49,11 @@ module _ (h : ℕ) (work m : List ℕ) (low : h ≤ length work) (same : length 
   pub put-rest : drop h (m ++ drop h work) ≡ drop h work
   put-rest = drop-at m (drop h work) h (same ∙ length-take-le h work low)
 
--- lists that agree from h on agree at each index there
-pub rest-at : (h : ℕ) (w w′ : List ℕ) → drop h w′ ≡ drop h w → (j : ℕ) → h ≤ j → getD w′ j 0 ≡ getD w j 0
-rest-at h w w′ q j l = sym (back w′) ∙ ap (λ (s : List ℕ). getD s (j - h) 0) q ∙ back w
-  where
-    back : (s : List ℕ) → getD (drop h s) (j - h) 0 ≡ getD s j 0
-    back s = let e : h + (j - h) ≡ j = omega arith in getD-drop h s (j - h) 0 ∙ ap (λ (n : ℕ). getD s n 0) e
-
-pub below-put : {P Q : ℕ → Type 0} {work w m : List ℕ} {top t t′ : ℕ} (h : ℕ) → h ≤ length work → PushedBelow h P work top w t → length m ≡ length (take h w) → Pushed Q (take h work) top m t′ → PushedBelow h Q work top (m ++ drop h w) t′
-below-put {Q = Q} {work = work} {w = w} {m = m} {top = top} {t′ = t′} h low b s q =
+pub below-put : {P Q : ℕ → Type 0} {heap work w m : List ℕ} {top t t′ : ℕ} (h : ℕ) → h ≤ length work → PushedBelow h heap P work top w t → length m ≡ length (take h w) → Pushed heap Q (take h work) top m t′ → PushedBelow h heap Q work top (m ++ drop h w) t′
+below-put {Q = Q} {heap = heap} {work = work} {w = w} {m = m} {top = top} {t′ = t′} h low b s q =
     let low′ : h ≤ length w = omega (arith, b .same) in
     record {
-      front = subst (λ (l : List ℕ). Pushed Q (take h work) top l t′) (sym (put-front h w m low′ s)) q;
+      front = subst (λ (l : List ℕ). Pushed heap Q (take h work) top l t′) (sym (put-front h w m low′ s)) q;
       rest = put-rest h w m low′ s ∙ b .rest;
       same = length-front w m h s ∙ b .same;
     }

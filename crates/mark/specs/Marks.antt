@@ -6,7 +6,7 @@ use mathlib.Core.List.{List}
 use lib.ListN.{length, getD, drop}
 use Rattle.cell.specs.Word.{Refers}
 use Rattle.machine.specs.Layout.{H, N, fixed, field, argument, heapMost}
-use Rattle.machine.specs.Roles.{cell, codeOf}
+use Rattle.machine.specs.Roles.{cell, codeOf, noteAt}
 use Rattle.machine.specs.Reached.{Reach}
 
 abbrev pub Marked : List ℕ → ℕ → Type 0
@@ -15,7 +15,7 @@ Marked work x = 0 < getD work x 0
 -- the roots, as the notes say: the note of the stack word i stands in the work words after the heap's
 pub data Start (control stack heap work : List ℕ) : ℕ → Type 0 where
   inControl : (i : ℕ) → i < field control 0 N → Start control stack heap work (argument control 0 i)
-  onStack : (i : ℕ) → i < length stack → getD work (length heap + i) 0 ≡ codeOf cell → Start control stack heap work (getD stack i 0)
+  onStack : (i : ℕ) → i < length stack → noteAt work (length heap) i ≡ codeOf cell → Start control stack heap work (getD stack i 0)
 
 -- all that w refers to lies below h
 abbrev pub Within : ℕ → List ℕ → ℕ → Type 0

@@ -1,5 +1,6 @@
 -- The pending stack, linked through the work words: `top` is 0 where it is empty, and x + 1 where the cell x is on top; the word of a
--- pending cell is one more than the `top` below it. So a marked cell's word is never 0, and each cell is pushed once. Assumes nothing.
+-- pending cell is one more than the `top` below it. So a marked cell's word is never 0, and each cell is pushed at most once: one that
+-- refers to nothing needs no look, and its word is 1. Assumes nothing.
 use Prim.Native.Nat.{ℕ, zero, suc, _+_, _-_, _≤_, _<_}
 use mathlib.Core.Path.{_≡_}
 use mathlib.Core.Logic.{_⊎_, _↔_}
@@ -7,11 +8,8 @@ use mathlib.Core.List.{List, [], _∷_}
 use lib.ListN.{getD, set, length}
 use Rattle.cell.specs.Word.{Refers}
 use Rattle.machine.specs.Layout.{heapMost}
+use Rattle.machine.proofs.Lists.{In}
 use Rattle.mark.specs.Marks.{Marked, Within}
-
-abbrev pub In : ℕ → List ℕ → Type 0
-In x [] = ⊥
-In x (y ∷ pending) = (x ≡ y) ⊎ In x pending
 
 -- the cells pending, the top one first
 abbrev pub Chain : List ℕ → ℕ → List ℕ → Type 0
@@ -27,20 +25,26 @@ unmarked (suc w ∷ ws) = unmarked ws
 abbrev pub Range : ℕ → ℕ → ℕ → Type 0
 Range a z x = (a ≤ x) × (x < z)
 
+-- the cell x refers to nothing
+abbrev pub Leaf : List ℕ → ℕ → Type 0
+Leaf heap x = (y : ℕ) → Refers heap (getD heap x 0) y → ⊥
+
 -- what pushing the cells of P needs
-pub record Pushable (P : ℕ → Type 0) (marks : List ℕ) (top : ℕ) : Type 0 where
+pub record Pushable (heap : List ℕ) (P : ℕ → Type 0) (marks : List ℕ) (top : ℕ) : Type 0 where
   pub inside : (x : ℕ) → P x → x < length marks
+  pub deep : length marks ≤ length heap
   pub small : length marks ≤ heapMost
   pub low : top ≤ length marks
 
--- cells of P that were not marked have been pushed, one after the other
-pub data Grown (P : ℕ → Type 0) (marks : List ℕ) (top : ℕ) : List ℕ → ℕ → Type 0 where
-  none : Grown P marks top marks top
-  more : {m : List ℕ} {t : ℕ} → Grown P marks top m t → (x : ℕ) → P x → x < length m → getD m x 0 ≡ 0 → Grown P marks top (set m x (t + 1)) (x + 1)
+-- cells of P that were not marked have been marked, one after the other; each was pushed, or refers to nothing
+pub data Grown (heap : List ℕ) (P : ℕ → Type 0) (marks : List ℕ) (top : ℕ) : List ℕ → ℕ → Type 0 where
+  none : Grown heap P marks top marks top
+  more : {m : List ℕ} {t : ℕ} → Grown heap P marks top m t → (x : ℕ) → P x → x < length m → getD m x 0 ≡ 0 → Grown heap P marks top (set m x (t + 1)) (x + 1)
+  leaf : {m : List ℕ} {t : ℕ} → Grown heap P marks top m t → (x : ℕ) → P x → x < length m → getD m x 0 ≡ 0 → Leaf heap x → Grown heap P marks top (set m x 1) t
 
 -- and every cell of P is marked now
-pub record Pushed (P : ℕ → Type 0) (marks : List ℕ) (top : ℕ) (marks′ : List ℕ) (top′ : ℕ) : Type 0 where
-  pub grown : Grown P marks top marks′ top′
+pub record Pushed (heap : List ℕ) (P : ℕ → Type 0) (marks : List ℕ) (top : ℕ) (marks′ : List ℕ) (top′ : ℕ) : Type 0 where
+  pub grown : Grown heap P marks top marks′ top′
   pub all : (x : ℕ) → P x → Marked marks′ x
   pub same : length marks′ ≡ length marks
   pub small : top ≤ length marks → top′ ≤ length marks

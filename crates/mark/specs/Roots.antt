@@ -6,7 +6,7 @@ use mathlib.Core.List.{List}
 use lib.ListN.{getD, length, take, drop}
 use Rattle.cell.specs.Word.{Refers}
 use Rattle.machine.specs.Layout.{N, fixed, field}
-use Rattle.machine.specs.Roles.{cell, codeOf}
+use Rattle.machine.specs.Roles.{cell, codeOf, noteAt}
 use Rattle.mark.specs.Pending.{Pushed}
 
 -- a root at an index below n, one of those that Is picks, refers to x
@@ -22,14 +22,14 @@ ByArgument control heap = Named heap control (λ (i : ℕ). fixed ≤ i) (fixed 
 
 -- the note of the stack word i says that it is a cell
 abbrev pub NotedCell : List ℕ → List ℕ → ℕ → Type 0
-NotedCell heap work i = getD work (length heap + i) 0 ≡ codeOf cell
+NotedCell heap work i = noteAt work (length heap) i ≡ codeOf cell
 
 -- a stack word that is a cell refers to x
 abbrev pub ByCell : List ℕ → List ℕ → List ℕ → ℕ → Type 0
 ByCell stack heap work = Named heap stack (NotedCell heap work) (length stack)
 
 -- pushed in the first h work words; the others are as they were
-pub record PushedBelow (h : ℕ) (P : ℕ → Type 0) (work : List ℕ) (top : ℕ) (work′ : List ℕ) (top′ : ℕ) : Type 0 where
-  pub front : Pushed P (take h work) top (take h work′) top′
+pub record PushedBelow (h : ℕ) (heap : List ℕ) (P : ℕ → Type 0) (work : List ℕ) (top : ℕ) (work′ : List ℕ) (top′ : ℕ) : Type 0 where
+  pub front : Pushed heap P (take h work) top (take h work′) top′
   pub rest : drop h work′ ≡ drop h work
   pub same : length work′ ≡ length work

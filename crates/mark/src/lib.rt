@@ -12,40 +12,66 @@ use machine::FIXED;
 use machine::H;
 use machine::N;
 
-// Marks the cell x and puts it on the pending stack, unless it is marked.
-fn push(marks: &mut [u32], top: u32, x: usize) -> u32
-    requires { ⌜ (x < length (now marks)) × (length (now marks) ≤ heapMost) × (top ≤ length (now marks)) ⌝ }
-    ensures { λ r. ⌜ Pushed (λ (y : ℕ). y ≡ x) (now (marks .entry)) top (now (marks .exit)) r ⌝ }
+// Marks the cell x and puts it on the pending stack, unless it is marked. A CONST refers to nothing: it is marked and not looked into.
+fn push(heap: &[u32], marks: &mut [u32], top: u32, x: usize) -> u32
+    requires { ⌜ (x < length (now marks)) × (length (now marks) ≤ length (now heap)) × (length (now marks) ≤ heapMost) × (top ≤ length (now marks)) ⌝ }
+    ensures { λ r. ⌜ Pushed (now (heap .entry)) (λ (y : ℕ). y ≡ x) (now (marks .entry)) top (now (marks .exit)) r ⌝ }
 {
-    if marks[x] == 0 {
-        marks[x] = top + 1;
-        return x as u32 + 1;
+    if marks[x] != 0 {
+        return top;
     }
-    top
+    if cell::tag(heap[x]) == cell::CONST {
+        marks[x] = 1;
+        return top;
+    }
+    marks[x] = top + 1;
+    x as u32 + 1
 }
 
 // Pushes the unmarked cells from a up to, not including, z.
-fn push_range(marks: &mut [u32], top: u32, a: usize, z: usize) -> u32
-    requires { ⌜ Pushable (Range a z) (now marks) top ⌝ }
-    ensures { λ r. ⌜ Pushed (Range a z) (now (marks .entry)) top (now (marks .exit)) r ⌝ }
+fn push_range(heap: &[u32], marks: &mut [u32], top: u32, a: usize, z: usize) -> u32
+    requires { ⌜ Pushable (now heap) (Range a z) (now marks) top ⌝ }
+    ensures { λ r. ⌜ Pushed (now (heap .entry)) (Range a z) (now (marks .entry)) top (now (marks .exit)) r ⌝ }
 {
     let mut t = top;
     let mut x = a;
     while x < z {
-        t = push(marks, t, x);
+        t = push(heap, marks, t, x);
         x += 1;
     }
     t
 }
 
+// Pushes the two cells of a LIST, a and a + 1, where they are unmarked.
+fn push_pair(heap: &[u32], marks: &mut [u32], top: u32, a: usize) -> u32
+    requires { ⌜ Pushable (now heap) (Range a (a + 2)) (now marks) top ⌝ }
+    ensures { λ r. ⌜ Pushed (now (heap .entry)) (Range a (a + 2)) (now (marks .entry)) top (now (marks .exit)) r ⌝ }
+{
+    let t = push(heap, marks, top, a);
+    push(heap, marks, t, a + 1)
+}
+
 // Pushes the unmarked cells that a word refers to.
 fn push_word(heap: &[u32], marks: &mut [u32], top: u32, word: u32) -> u32
-    requires { ⌜ Pushable (Refers (now heap) word) (now marks) top ⌝ }
-    ensures { λ r. ⌜ Pushed (Refers (now (heap .entry)) word) (now (marks .entry)) top (now (marks .exit)) r ⌝ }
+    requires { ⌜ Pushable (now heap) (Refers (now heap) word) (now marks) top ⌝ }
+    ensures { λ r. ⌜ Pushed (now (heap .entry)) (Refers (now (heap .entry)) word) (now (marks .entry)) top (now (marks .exit)) r ⌝ }
 {
-    let a = cell::value(word) as usize;
-    let n = cell::extent_of(heap, word) as usize;
-    push_range(marks, top, a, a + n)
+    let tag = cell::tag(word);
+    if tag == cell::CONST {
+        return top;
+    }
+    let v = cell::value(word);
+    let a = v as usize;
+    if tag == cell::VAR {
+        if v < cell::STACK_BASE {
+            return push(heap, marks, top, a);
+        }
+        return top;
+    }
+    if tag == cell::LIST {
+        return push_pair(heap, marks, top, a);
+    }
+    push_range(heap, marks, top, a, a + 1 + cell::arity(heap[a]) as usize)
 }
 
 // Looks into pending cells until none is left: then all that is reached from the cells marked at entry is marked, and nothing else.
@@ -64,8 +90,8 @@ fn drain(heap: &[u32], marks: &mut [u32], top: u32)
 
 // Pushes what the control area's saved arguments refer to, onto an empty pending stack.
 fn push_arguments(control: &[u32], heap: &[u32], marks: &mut [u32]) -> u32
-    requires { ⌜ (fixed + field (now control) 0 N ≤ length (now control)) × Pushable (ByArgument (now control) (now heap)) (now marks) 0 ⌝ }
-    ensures { λ r. ⌜ Pushed (ByArgument (now (control .entry)) (now (heap .entry))) (now (marks .entry)) 0 (now (marks .exit)) r ⌝ }
+    requires { ⌜ (fixed + field (now control) 0 N ≤ length (now control)) × Pushable (now heap) (ByArgument (now control) (now heap)) (now marks) 0 ⌝ }
+    ensures { λ r. ⌜ Pushed (now (heap .entry)) (ByArgument (now (control .entry)) (now (heap .entry))) (now (marks .entry)) 0 (now (marks .exit)) r ⌝ }
 {
     let end = FIXED + control[N] as usize;
     let mut t = 0;
@@ -80,8 +106,8 @@ fn push_arguments(control: &[u32], heap: &[u32], marks: &mut [u32]) -> u32
 // Pushes what the stack's cells refer to, as the notes after the heap's work words say which they are.
 fn push_cells(stack: &[u32], heap: &[u32], work: &mut [u32], h: usize, top: u32) -> u32
     requires { ⌜ (length (now heap) + length (now stack) ≤ length (now work)) × (h ≤ length (now heap)) ⌝ }
-    requires { ⌜ Pushable (ByCell (now stack) (now heap) (now work)) (take h (now work)) top ⌝ }
-    ensures { λ r. ⌜ PushedBelow h (ByCell (now (stack .entry)) (now (heap .entry)) (now (work .entry))) (now (work .entry)) top (now (work .exit)) r ⌝ }
+    requires { ⌜ Pushable (now heap) (ByCell (now stack) (now heap) (now work)) (take h (now work)) top ⌝ }
+    ensures { λ r. ⌜ PushedBelow h (now (heap .entry)) (ByCell (now (stack .entry)) (now (heap .entry)) (now (work .entry))) (now (work .entry)) top (now (work .exit)) r ⌝ }
 {
     let notes = heap.len();
     let mut t = top;

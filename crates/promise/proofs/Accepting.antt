@@ -15,9 +15,10 @@ use Rattle.machine.proofs.Below.{below-le, below-mono, below-lt, member}
 use Rattle.machine.proofs.Chains.{Point, newest, older, PointOk, Linked, size, link}
 use Rattle.machine.proofs.Accepted.{Sizes, Fits, Plain, Good, Names, Refer, Entry, onHeap, onStack as inStack, Accepted, Granted}
 use Rattle.machine.proofs.Words.{move-high, move-bits, entry-low, entry-high}
+use Rattle.machine.proofs.Inside.{heap-low}
 use Rattle.promise.proofs.Into.{into-point, into-view, into-is}
 use Rattle.promise.proofs.Refers.{good-moved}
-use Rattle.promise.proofs.Relation.{Follows, heap-low, cell-has, at-moved, into-plain, into-mixed}
+use Rattle.promise.proofs.Relation.{Follows, cell-has, at-moved, into-plain, into-mixed}
 
 module _ {cells entries : ℕ → Bool} {X Y : Image} (r : Follows cells entries X Y) (a : Accepted X) where
   sizes : Sizes Y

@@ -6,25 +6,21 @@ use Prim.Native.Nat.{ℕ, _+_, _-_, _≤_, _<_}
 use mathlib.Core.Path.{_≡_, refl, sym, ap, _∙_, subst, subst₂}
 use mathlib.Core.Logic.{_⊎_, inl, inr, ⊎-elim}
 use mathlib.Core.Bool.{Bool, true, false}
-use native.Mathlib.Omega.{arith}
-use native.Mathlib.Decide.{ℕ-discrete, decLt}
-use mathlib.Core.List.{List}
 use lib.ListN.{getD}
-use Rattle.cell.specs.Word.{CONST, valueOf, tagOf, stackBase, Refers}
-use Rattle.cell.proofs.Words.{extent-stack-var}
+use Rattle.cell.specs.Word.{stackBase, Refers}
 use Rattle.machine.specs.Layout.{Image, Field, L, E, B, T, H, placeOf, reg, at, argument, word, sizeOf}
 use Rattle.machine.specs.Roles.{Role, cell, own, isCell}
 use Rattle.machine.specs.Reached.{Root, inControl, onStack}
-use Rattle.machine.specs.Moved.{below, moveWord, moveEntry}
-use Rattle.machine.proofs.Below.{below-all}
+use Rattle.machine.specs.Moved.{below}
+use Rattle.machine.proofs.Below.{below-all, all}
 use Rattle.machine.proofs.Tests.{true-false}
 use Rattle.machine.proofs.Layouts.{at-word}
 use Rattle.machine.proofs.Chains.{Point, newest, View, ofControl, Is, IsCell, inPoint}
-use Rattle.machine.proofs.Walks.{whole-linked}
-use Rattle.machine.proofs.Roles.{has-is, is-has}
+use Rattle.machine.proofs.Roles.{has-is, linked-has}
 use Rattle.machine.proofs.Accepted.{Good, Names, Accepted}
-use Rattle.machine.proofs.Words.{move-const, move-ref, move-high, entry-low, entry-high}
+use Rattle.machine.proofs.Words.{move-all, entry-all}
 use Rattle.machine.proofs.Moves.{Fate, moves, countsEntries, countsCells, stays, fateOf, fated, Reads}
+use Rattle.machine.proofs.Inside.{names-nothing}
 use Rattle.promise.proofs.Into.{Into, into-is}
 
 -- the address a names a heap cell outside the set, or a stack word that is no cell
@@ -43,21 +39,14 @@ pub record Follows (cells entries : ℕ → Bool) (X Y : Image) : Type 0 where
 
 -- ---- one accepted image
 
--- the heap's indexes are heap addresses
-pub heap-low : {X : Image} → Accepted X → reg X H ≤ stackBase
-heap-low a = omega (arith, a .fits .heap, a .sizes .heap)
-
 -- the stack words that are cells, as the definitions and as the chains say it
 pub cell-has : {X : Image} → Accepted X → {i : ℕ} → IsCell X i → isCell X i ≡ true
-cell-has {X} a {i} p = is-has X (whole-linked X .1 (a .linked)) i cell p
+cell-has {X} a {i} p = linked-has X (a .linked) i cell p
 
 -- a root refers within the heap, or it holds the address of a stack word
 pub root-refers : {X : Image} → Accepted X → {w : ℕ} → Root X w → Good (reg X H) (X .heap) w ⊎ Names X w
 root-refers a (inControl i l) = a .refer .control i l
 root-refers {X} a (onStack i q) = ⊎-elim (λ g. inl g) (λ t. inr (t .0)) (a .refer .stack i (has-is X i cell q))
-
-pub names-nothing : {X : Image} {w : ℕ} → Names X w → (heap : List ℕ) (x : ℕ) → Refers heap w x → ⊥
-names-nothing {w} t heap x f = omega (arith, extent-stack-var heap w (t .var) (t .high))
 
 pub root-good : {X : Image} → Accepted X → {w : ℕ} → Root X w → (x : ℕ) → Refers (X .heap) w x → Good (reg X H) (X .heap) w
 root-good {X} a o x f = ⊎-elim (λ g. g) (λ t. absurd (names-nothing t (X .heap) x f)) (root-refers a o)
@@ -89,27 +78,6 @@ module _ {cells entries : ℕ → Bool} {X Y : Image} (r : Reads cells entries X
   }
 
 -- ---- at the start nothing is lost
-
-abbrev pub all : ℕ → Bool
-all x = true
-
-pub move-all : (w : ℕ) → moveWord (below all) w ≡ w
-move-all w =
-    elim (ℕ-discrete (tagOf w) CONST) [
-      | yes e ↦ move-const (below all) w e
-      | no n ↦
-          elim (decLt (valueOf w) stackBase) [
-            | yes h ↦ omega (arith, move-ref (below all) w n h, below-all (valueOf w))
-            | no h ↦ move-high (below all) w (omega arith)
-          ]
-    ]
-
-pub entry-all : (a : ℕ) → moveEntry (below all) a ≡ a
-entry-all a =
-    elim (decLt a stackBase) [
-      | yes h ↦ entry-low (below all) a h ∙ below-all a
-      | no h ↦ entry-high (below all) a (omega arith)
-    ]
 
 pub fated-all : (f : Fate) (w : ℕ) → fated (below all) (below all) f w ≡ w
 fated-all moves w = move-all w

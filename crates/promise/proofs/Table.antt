@@ -1,28 +1,24 @@
 -- The definitions give every row of the table of settled examples. Each by evaluation: the verdict, the certificate of what is reached, the
 -- counts and the areas. Assumes nothing.
 use Prim.Native.Nat.{ℕ}
-use mathlib.Core.Path.{_≡_, refl, sym, _∙_}
+use mathlib.Core.Path.{_≡_, refl}
 use mathlib.Core.List.{List, [], _∷_}
-use Rattle.cell.specs.Word.{extent}
 use Rattle.machine.specs.declared.Refusal.{Refusal}
-use Rattle.machine.specs.Layout.{Image, field, argument, word}
-use Rattle.machine.specs.Chains.{frames, points, walk, sound, faultOf}
-use Rattle.machine.specs.Roles.{gives, some, has, isField, hasRole, conflict}
-use Rattle.machine.specs.Refusals.{Where, nowhere, refused, workWords, first, scan, orElse, firstOf, legalSizes, enough, fits, marked, functorAt, refersWell, namesCell, badHeap, badStack, badControl, goodEntry, badEntry, verdict, stepVerdict}
-use Rattle.machine.specs.Moved.{below, moveWord, moveEntry, each, kept, closeUp, moveControl, moveStack, moved}
-use Rattle.machine.specs.Stepped.{among, undone, undoes as undoesEntry, reset, copied, stepped}
+use Rattle.machine.specs.Layout.{Image}
+use Rattle.machine.specs.Refusals.{workWords, verdict}
+use Rattle.machine.specs.Stepped.{stepped}
 use Rattle.machine.specs.Readable.{slots, readable}
 use Rattle.machine.specs.Answers.{verdictOf, answerOf, counted}
-use Rattle.machine.proofs.Examples.{night}
-use Rattle.machine.proofs.Firsts.{refused-not}
+use Rattle.machine.specs.NightA.{night}
+use Rattle.machine.proofs.Examples.{opened as evaluated}
 use Rattle.promise.specs.Table.{Leaves, Right, AllRight, counts, refuses, dawn, printed, dusk, trailed, heapOnly, rows}
 use Rattle.promise.proofs.Marking.{any, refersTo, argumentRefers, wordRefers, rooted, cellRefers, led, keptEntry, keptBy}
 use Rattle.promise.proofs.Certificates.{ranked, rankedBelow, unfounded, omitted, certified}
 use Rattle.promise.proofs.Turns.{collects-to, refuses-collection, steps-to, refuses-step}
 
--- what an evaluation opens
+-- what an evaluation opens besides
 opened : Unit {0}
-unfolding extent field argument word frames points walk sound faultOf gives some has isField hasRole conflict first scan orElse firstOf legalSizes enough fits marked functorAt refersWell namesCell badHeap badStack badControl goodEntry badEntry verdict stepVerdict below moveWord moveEntry each kept closeUp moveControl moveStack moved among undone undoesEntry reset copied stepped slots readable verdictOf answerOf counted any refersTo argumentRefers wordRefers rooted cellRefers led keptEntry keptBy ranked rankedBelow unfounded omitted certified
+unfolding evaluated slots readable verdictOf answerOf counted any refersTo argumentRefers wordRefers rooted cellRefers led keptEntry keptBy ranked rankedBelow unfounded omitted certified
 opened = tt
 
 -- cells 1 to 3 are referred to by roots, 6 by 2, 7 and 8 by 6
@@ -43,8 +39,8 @@ dusk-too = record {
 }
 
 -- a refusal
-refuses-to : (X : Image) (r : Refusal) (number : ℕ) (place : Where) → verdict (workWords X) X ≡ refused number place → verdictOf r ≡ refused number place → Right (refuses X r)
-refuses-to X r number place v e = (X, refuses-collection X r (v ∙ sym e) (λ z. refused-not number place (sym e ∙ z)), refl)
+refuses-to : (X : Image) (r : Refusal) → verdict (workWords X) X ≡ verdictOf r → Right (refuses X r)
+refuses-to X r v = (X, refuses-collection X r v, refl)
 
 -- one row and the rest
 infixr 20 _and_
@@ -67,13 +63,13 @@ table =
       refl,
     )
     and (heapOnly 0 [], collects-to (heapOnly 0 []) _ _ [] refl refl refl refl, refl)
-    and refuses-to _ _ _ _ refl refl
+    and refuses-to _ _ refl
     and (heapOnly 0 (0 ∷ 0 ∷ []), collects-to (heapOnly 2 (8 ∷ 12 ∷ [])) _ _ [] refl refl refl refl, refl)
-    and refuses-to _ _ _ _ refl refl
-    and refuses-to _ _ _ _ refl refl
-    and refuses-to _ _ _ _ refl refl
+    and refuses-to _ _ refl
+    and refuses-to _ _ refl
+    and refuses-to _ _ refl
     and (dawn 3 (1 ∷ 1 ∷ 134217731 ∷ []), collects-to (trailed (2 ∷ 2 ∷ 134217731 ∷ [])) _ _ nightRanks refl refl refl refl, refl)
     and (dawn 1 (134217731 ∷ 0 ∷ 0 ∷ []), collects-to (trailed (4 ∷ 4 ∷ 134217731 ∷ [])) _ _ nightRanks refl refl refl refl, refl)
-    and refuses-to _ _ _ _ refl refl
-    and (heapOnly 0 [], refuses-step (heapOnly 0 []) _ refl (refused-not 8 nowhere), refl)
+    and refuses-to _ _ refl
+    and (heapOnly 0 [], refuses-step (heapOnly 0 []) _ refl, refl)
     and tt

@@ -15,7 +15,7 @@ use Rattle.machine.specs.Layout.{Image, none}
 use Rattle.machine.specs.Refusals.{workWords}
 use Rattle.machine.specs.Readable.{readable}
 use Rattle.machine.specs.Answers.{workAfter, Collects, StepsBack}
-use Rattle.machine.proofs.Examples.{night}
+use Rattle.machine.specs.NightA.{night}
 
 -- a call with its answer
 pub data Turn : Type 0 where

@@ -14,23 +14,15 @@ use Rattle.machine.specs.declared.Stepped.{Stepped}
 use Rattle.machine.specs.declared.Stepped.the-variants as stepping
 use Rattle.machine.specs.Layout.{Image}
 use Rattle.machine.specs.Refusals.{Verdict, accepted, refused}
-use Rattle.machine.specs.Answers.{verdictOf, Answer, answerOf, counted, Collects, StepAnswer, stepAnswerOf, StepsBack}
+use Rattle.machine.specs.Answers.{Answer, answerOf, counted, Collects, StepAnswer, stepAnswerOf, StepsBack}
 use Rattle.machine.proofs.Firsts.{refused-not}
-use Rattle.machine.proofs.Injective.{stepAnswerOf-injective}
+use Rattle.machine.proofs.Injective.{refusal-refuses}
 use Rattle.replay.specs.Replays.{Calls, collected, notCollected, stepped, notStepped}
 
 -- an answer that gives the verdict where that refuses, and itself accepts
 accepts : (v w : Verdict) → (v ≢ accepted → w ≡ v) → w ≡ accepted → v ≡ accepted
 accepts accepted w given a = refl
 accepts (refused n p) w given a = sym (given (refused-not n p)) ∙ a
-
--- no refusal is an acceptance
-refusal-refuses : (r : Refusal) → verdictOf r ≢ accepted
-unfolding stepAnswerOf
-refusal-refuses r e =
-    let q = stepAnswerOf-injective (stepping.Refused r) (stepping.Undone 0) (ap (λ (v : Verdict). record { verdict = v; undone = 0 }) e) in
-    let z : _≡_ {A = ℕ} 0 1 = cc in
-    omega arith
 
 -- a byte that steps back
 not-zero : (b : ℕ) → b ≢ 0 → b ≡ suc (b - 1)

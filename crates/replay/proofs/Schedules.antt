@@ -13,10 +13,10 @@ use Rattle.machine.specs.Stepped.{stepped}
 use Rattle.machine.specs.Answers.{workAfter, pickWords}
 use Rattle.machine.proofs.Accepted.{Accepted, Granted}
 use Rattle.machine.proofs.Verdicts.{verdict-accepted, step-iff}
-use Rattle.machine.proofs.Moves.{moved-reads}
-use Rattle.machine.proofs.Steps.{stepped-steps}
+use Rattle.machine.proofs.Steps.{stepped-steps, Steps}
 use Rattle.promise.specs.Demand.{Call, collecting, stepping, stepsIn, Accepts, Grants, Plain, last, back, Run, stop, collect, step, NoneRefused}
 use Rattle.promise.proofs.Promise.{demand3}
+use Rattle.promise.proofs.Collecting.{collected-reads}
 use Rattle.replay.specs.declared.Replayed.{Replayed}
 use Rattle.replay.specs.Replays.{callsOf, collected, notCollected, notStepped, Replays, finished, granted, refused, Kept, Demand3Met}
 use Rattle.replay.specs.Replays as replays
@@ -65,18 +65,10 @@ cleared-length X work l = picked (enough (length work) X)
     picked false = refl
 
 collected-room : {X Y : Image} → Accepted X → CollectedTo X Y → workWords Y ≡ workWords X
-collected-room {X} {Y} a c =
-    let r = moved-reads (c .cells) (c .entries) X a in
-    let h : length (Y .heap) ≡ length (X .heap) = ap (λ (Z : Image). length (Z .heap)) (c .leaves) ∙ r .heap-length in
-    let s : length (Y .stack) ≡ length (X .stack) = ap (λ (Z : Image). length (Z .stack)) (c .leaves) ∙ r .stack-length in
-    omega (arith, h, s)
+collected-room a c = let r = collected-reads a c in omega (arith, r .heap-length, r .stack-length)
 
 stepped-room : {X Y : Image} → Granted X → Y ≡ stepped X → workWords Y ≡ workWords X
-stepped-room {X} {Y} g e =
-    let r = stepped-steps X g in
-    let h : length (Y .heap) ≡ length (X .heap) = ap (λ (Z : Image). length (Z .heap)) e ∙ r .heap-length in
-    let s : length (Y .stack) ≡ length (X .stack) = ap (λ (Z : Image). length (Z .stack)) e ∙ r .stack-length in
-    omega (arith, h, s)
+stepped-room {X} g e = let r = subst (λ (Z : Image). Steps X Z) (sym e) (stepped-steps X g) in omega (arith, r .heap-length, r .stack-length)
 
 -- ---- the theorem
 

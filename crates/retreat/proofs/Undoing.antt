@@ -13,8 +13,8 @@ use Rattle.cell.specs.Word.{pick, stackBase, unbound}
 use Rattle.machine.specs.Moved.{each}
 use Rattle.machine.specs.Stepped.{among}
 use Rattle.machine.proofs.Each.{length-each, each-at, each-is, each-keeps}
+use Rattle.machine.proofs.InPlace.{in-place-none, in-place-more, in-place-skip, in-place-end}
 use Rattle.retreat.specs.Undo.{undoneWord, Undoable, Undid}
-use Rattle.retreat.proofs.Stores.{store-each}
 
 -- ---- one word
 
@@ -80,9 +80,13 @@ module _ (at : ℕ → ℕ) where
   -- one entry, which names the word i
   words-store : (entry : ℕ) (l : List ℕ) (i v : ℕ) → i < length l → entry ≡ at i → v ≡ unbound entry → ((k : ℕ) → k ≢ i → entry ≢ at k) → set l i v ≡ each (λ (x : ℕ) (w : ℕ). undoneWord (entry ∷ []) 0 1 (at x) w) 0 l
   words-store entry l i v h e q f =
-      store-each (λ (x : ℕ) (w : ℕ). undoneWord (entry ∷ []) 0 1 (at x) w) l l i v h refl
-      (q ∙ ap unbound e ∙ sym (undone-hit entry (at i) (getD l i 0) e))
-      (λ k o n. sym (undone-miss entry (at k) (getD l k 0) (f k n)))
+      let miss : (k : ℕ) → k ≢ i → Becomes k (getD l k 0) (getD l k 0) = λ k n. sym (undone-miss entry (at k) (getD l k 0) (f k n)) in
+      let before = in-place-skip Becomes (in-place-none Becomes l) i (omega arith) (λ k a b. miss k (omega arith)) in
+      let hit = in-place-more Becomes before h v (q ∙ ap unbound e ∙ sym (undone-hit entry (at i) (getD l i 0) e)) in
+      in-place-end Becomes (in-place-skip Becomes hit (length l) (omega arith) (λ k a b. miss k (omega arith))) (omega arith) _ (λ k w u r. r)
+    where
+      Becomes : ℕ → ℕ → ℕ → Type 0
+      Becomes k w u = u ≡ undoneWord (entry ∷ []) 0 1 (at k) w
 
   -- or none of them
   words-stay : (entry : ℕ) (l : List ℕ) → ((k : ℕ) → k < length l → entry ≢ at k) → l ≡ each (λ (x : ℕ) (w : ℕ). undoneWord (entry ∷ []) 0 1 (at x) w) 0 l

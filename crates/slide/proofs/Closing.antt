@@ -1,4 +1,5 @@
--- Closing up in place, over any set, f and list: a kept word is stored behind those that were kept before it, any other is passed over.
+-- Closing up in place, over any set, f and list: a kept word is stored behind those that were kept before it, any other is passed over,
+-- or stored where the next kept one will stand.
 -- The word at i is still the old one, since no more than i were kept. Assumes nothing.
 use Prim.Native.Nat.{ℕ, suc, _+_, _-_, _≤_, _<_}
 use mathlib.Core.Path.{_≡_, refl, sym, ap, _∙_}
@@ -7,44 +8,40 @@ use mathlib.Core.List.{List, [], _∷_, _++_, map-append, append-nil}
 use native.Mathlib.Omega.{arith}
 use native.Mathlib.Numerals.{add-one}
 use lib.ListN.{length, getD, take, drop, set, replicate, length-set, length-take}
-use lib.Seq.{getD-drop, drop-set-lt, drop-drop, take-suc, take-suc-set}
+use lib.Seq.{drop-set-lt, take-set-le, take-suc, take-suc-set}
 use Rattle.machine.specs.Moved.{consIf, kept, closeUp}
 use Rattle.machine.proofs.Below.{below-zero, below-in, below-out}
+use Rattle.machine.proofs.Parts.{rest-at, rest-later}
 use Rattle.slide.specs.Closed.{Passed, Closed}
-
--- lists that agree from a on agree from z on
-drop-later : (a z : ℕ) (xs ys : List ℕ) → a ≤ z → drop a xs ≡ drop a ys → drop z xs ≡ drop z ys
-drop-later a z xs ys h e =
-    let q : a + (z - a) ≡ z = omega arith in
-    rw q at (sym (drop-drop (z - a) a xs) ∙ ap (drop (z - a)) e ∙ drop-drop (z - a) a ys)
 
 pub passed-none : (words : List ℕ) → Passed words words 0 0
 passed-none words = record { low = omega arith; same = refl; ahead = refl }
 
 -- what stands from i on has not been touched
 pub passed-at : {words words′ : List ℕ} {i to : ℕ} → Passed words words′ i to → (j : ℕ) → i ≤ j → getD words′ j 0 ≡ getD words j 0
-passed-at {words} {words′} {i} p j h =
-    let q : i + (j - i) ≡ j = omega arith in
-    rw q at (sym (getD-drop i words′ (j - i) 0) ∙ ap (λ (l : List ℕ). getD l (j - i) 0) (p .ahead) ∙ getD-drop i words (j - i) 0)
+passed-at {words} {words′} {i} p j h = rest-at i words′ words (p .ahead) j h
 
--- one turn: a word that is kept is stored, any other passed over
+-- one turn: a word that is kept is stored, any other passed over, or stored and not counted
 pub data Turned (Value : ℕ → Type 0) (b : Bool) (words : List ℕ) (to : ℕ) (words′ : List ℕ) (to′ : ℕ) : Type 0 where
   stored : {v : ℕ} → b ≡ true → Value v → words′ ≡ set words to v → to′ ≡ to + 1 → Turned Value b words to words′ to′
   skipped : b ≡ false → words′ ≡ words → to′ ≡ to → Turned Value b words to words′ to′
-
-pub passed-stored : {words words′ words″ : List ℕ} {i to : ℕ} (v : ℕ) → Passed words words′ i to → words″ ≡ set words′ to v → Passed words words″ (i + 1) (to + 1)
-passed-stored {words} {words′} {i = i} {to = to} v p q = rw q (record {
-  low = omega (arith, p .low);
-  same = simp length-set (p .same);
-  ahead = drop-set-lt (i + 1) words′ to v (omega (arith, p .low)) ∙ drop-later i (i + 1) words′ words (omega arith) (p .ahead);
-})
+  uncounted : (v : ℕ) → b ≡ false → words′ ≡ set words to v → to′ ≡ to → Turned Value b words to words′ to′
 
 pub passed-turn : {Value : ℕ → Type 0} {b : Bool} {words words′ words″ : List ℕ} {i to to′ : ℕ} → Passed words words′ i to → Turned Value b words′ to words″ to′ → Passed words words″ (i + 1) to′
-passed-turn p (stored {v} e w q r) = rw r (passed-stored v p q)
+passed-turn {words = words} {words′ = words′} {i = i} {to = to} p (stored {v} e w q r) = rw (q, r) (record {
+  low = omega (arith, p .low);
+  same = simp length-set (p .same);
+  ahead = drop-set-lt (i + 1) words′ to v (omega (arith, p .low)) ∙ rest-later i words′ words (p .ahead) (i + 1) (omega arith);
+})
 passed-turn {words = words} {words′ = words′} {i = i} p (skipped e q r) = rw (q, r) (record {
   low = omega (arith, p .low);
   same = p .same;
-  ahead = drop-later i (i + 1) words′ words (omega arith) (p .ahead);
+  ahead = rest-later i words′ words (p .ahead) (i + 1) (omega arith);
+})
+passed-turn {words = words} {words′ = words′} {i = i} {to = to} p (uncounted v e q r) = rw (q, r) (record {
+  low = omega (arith, p .low);
+  same = simp length-set (p .same);
+  ahead = drop-set-lt (i + 1) words′ to v (omega (arith, p .low)) ∙ rest-later i words′ words (p .ahead) (i + 1) (omega arith);
 })
 
 -- one passing after the other
@@ -52,7 +49,7 @@ pub passed-join : {words words′ words″ : List ℕ} {a z to to′ : ℕ} → 
 passed-join {words} {words′} {a = a} {z = z} p h q = record {
   low = q .low;
   same = q .same ∙ p .same;
-  ahead = q .ahead ∙ drop-later a z words′ words h (p .ahead);
+  ahead = q .ahead ∙ rest-later a words′ words (p .ahead) z h;
 }
 
 consIf-append : (b : Bool) (x : ℕ) (xs ys : List ℕ) → consIf b x (xs ++ ys) ≡ consIf b x xs ++ ys
@@ -90,6 +87,12 @@ module _ (keep : ℕ → Bool) where
         rw (q, r) (record {
           count = rw add-one (c .count ∙ sym (below-out keep i o));
           front = rw (kept-more i words h, o, append-nil) (c .front);
+        })
+    closed-turn {words′ = words′} {i = i} {to = to} h k m p (uncounted v e q r) c =
+        let o : keep i ≡ false = sym k ∙ e in
+        rw (q, r) (record {
+          count = rw add-one (c .count ∙ sym (below-out keep i o));
+          front = take-set-le to words′ to v (omega arith) ∙ rw (kept-more i words h, o, append-nil) (c .front);
         })
 
     -- zeros behind the kept words

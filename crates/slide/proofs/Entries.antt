@@ -1,31 +1,19 @@
 -- A trail entry is a heap cell or a stack word: whether it is kept and what it becomes, in each case, and the entries that close up one
 -- after the other. Assumes nothing.
-use Prim.Native.Nat.{ℕ, _+_, _-_, _%_, _≤_, _<_}
-use mathlib.Core.Path.{_≡_, refl, sym, ap, _∙_}
-use mathlib.Core.Logic.{inl, inr}
+use Prim.Native.Nat.{ℕ, _+_, _-_, _≤_, _<_}
+use mathlib.Core.Path.{_≡_, refl, ap, _∙_}
 use mathlib.Core.Bool.{Bool}
 use mathlib.Core.List.{List}
 use native.Mathlib.Omega.{arith}
-use borrow.Author.Tests.{lt-ltb, le-ltb, eq-eqb, ne-eqb}
+use borrow.Author.Tests.{lt-ltb, le-ltb}
 use lib.ListN.{length, getD}
 use lib.Dec.{eqb}
 use Rattle.cell.specs.Word.{stackBase}
-use Rattle.machine.specs.Roles.{cell, codeOf}
+use Rattle.machine.specs.Roles.{cell, codeOf, noteAt}
 use Rattle.machine.specs.Moved.{below, moveEntry}
-use Rattle.machine.proofs.Tests.{either}
-use Rattle.counts.specs.Counts.{Counting}
-use Rattle.counts.proofs.Counting.{odd}
-use Rattle.slide.specs.Slides.{noteAt, keepsEntry, entriesOf}
+use Rattle.slide.specs.Slides.{keepsEntry, entriesOf}
 use Rattle.slide.specs.Closed.{EntryBelow, EntryKept, EntryMoved, EntriesClosed}
 use Rattle.slide.proofs.Closing.{Turned, passed-at, passed-turn, passed-join, closed-turn}
-
--- the last bit of a count says whether the cell is kept
-pub odd-cell : {cells : ℕ → Bool} {top : ℕ} {work : List ℕ} → Counting cells top work → (x : ℕ) → x < top → eqb (getD work x 0 % 2) 1 ≡ cells x
-odd-cell {cells} {top} {work} k x h =
-    elim (either (cells x)) [
-      | inl e ↦ eq-eqb (getD work x 0 % 2) 1 (rw e at (odd k x h)) ∙ sym e
-      | inr e ↦ let z = rw e at (odd k x h) in ne-eqb (getD work x 0 % 2) 1 (λ q. omega arith) ∙ sym e
-    ]
 
 module _ (cells : ℕ → Bool) (work : List ℕ) (notes a : ℕ) where
   pub keeps-heap : a < stackBase → keepsEntry cells work notes a ≡ cells a

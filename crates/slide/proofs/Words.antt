@@ -1,5 +1,5 @@
--- What a stack word becomes by its note, and a control word by its place: each test of `moveCell` and `moveControlWord` is decided by the
--- case at hand. Assumes nothing.
+-- What a stack word becomes by its note, and a control word by its place: each test of `moveCell`, `moveT` and `moveControlWord` is decided
+-- by the case at hand. Assumes nothing.
 use Prim.Native.Nat.{ℕ, _+_, _≤_, _<_}
 use mathlib.Core.Path.{_≡_, refl}
 use mathlib.Core.Logic.{_≢_}
@@ -8,9 +8,9 @@ use mathlib.Core.List.{List}
 use native.Mathlib.Omega.{arith}
 use borrow.Author.Tests.{ne-eqb, lt-ltb, le-ltb, le-leb, lt-leb}
 use Rattle.machine.specs.Layout.{T, H, N, placeOf, fixed, field}
-use Rattle.machine.specs.Roles.{cell, own, codeOf}
+use Rattle.machine.specs.Roles.{cell, own, codeOf, noteAt}
 use Rattle.machine.specs.Moved.{below, moveWord}
-use Rattle.slide.specs.Slides.{noteAt, moveCell, moveControlWord}
+use Rattle.slide.specs.Slides.{moveCell, moveControlWord, moveT}
 
 module _ (cells : ℕ → Bool) (work : List ℕ) (notes i w : ℕ) where
   pub move-cell : noteAt work notes i ≡ codeOf cell → moveCell cells work notes i w ≡ moveWord (below cells) w
@@ -24,6 +24,15 @@ module _ (cells : ℕ → Bool) (work : List ℕ) (notes i w : ℕ) where
   pub move-other : noteAt work notes i ≢ codeOf cell → noteAt work notes i ≢ codeOf (own H) → moveCell cells work notes i w ≡ w
   unfolding moveCell
   move-other m n = rw (ne-eqb (noteAt work notes i) (codeOf cell) m, ne-eqb (noteAt work notes i) (codeOf (own H)) n)
+
+module _ (entries : ℕ → Bool) (work : List ℕ) (notes i w : ℕ) where
+  pub moveT-field : noteAt work notes i ≡ codeOf (own T) → moveT entries work notes i w ≡ below entries w
+  unfolding moveT
+  moveT-field e = rw e
+
+  pub moveT-other : noteAt work notes i ≢ codeOf (own T) → moveT entries work notes i w ≡ w
+  unfolding moveT
+  moveT-other n = rw (ne-eqb (noteAt work notes i) (codeOf (own T)) n)
 
 module _ (cells : ℕ → Bool) (total kept : ℕ) (control : List ℕ) where
   pub control-T : (w : ℕ) → moveControlWord cells total kept control (placeOf T) w ≡ kept

@@ -7,13 +7,10 @@ use mathlib.Core.List.{List}
 use lib.ListN.{length, getD}
 use lib.Dec.{eqb}
 use Rattle.cell.specs.Word.{pick, stackBase, inHeap}
-use Rattle.machine.specs.Layout.{Field, T, H, N, placeOf, fixed, field, argument, trailMost}
-use Rattle.machine.specs.Roles.{cell, own, codeOf, within}
+use Rattle.machine.specs.Layout.{T, H, N, placeOf, fixed, field, argument, trailMost}
+use Rattle.machine.specs.Roles.{cell, own, codeOf, within, noteAt}
 use Rattle.machine.specs.Moved.{below, moveWord, moveEntry, each, closeUp}
-use Rattle.counts.specs.Counts.{Counting, Low, Movable}
-
-abbrev pub noteAt : List ℕ → ℕ → ℕ → ℕ
-noteAt work notes i = getD work (notes + i) 0
+use Rattle.counts.specs.Counts.{Low, Movable}
 
 abbrev pub pickBool : Bool → Bool → Bool → Bool
 pickBool true a b = a

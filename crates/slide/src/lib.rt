@@ -77,10 +77,10 @@ fn close_entries(
     let mut i = a;
     while i < z {
         let entry = trail[i];
-        if keeps(work, notes, entry) {
-            trail[k] = moved_entry(work, entry);
-            k += 1;
-        }
+        // Every entry is written down and only a kept one stays, so that the processor has no branch to guess.
+        trail[k] = moved_entry(work, entry);
+        let one = if keeps(work, notes, entry) { 1 } else { 0 };
+        k += one;
         i += 1;
     }
     k

@@ -1,39 +1,29 @@
+-- `admit::check_words` meets its contract: what `check_cells` refuses is the answer, and else what `check_entries` says. Assumes nothing.
 use mathlib.Core.Path.{refl, sym, ap, _∙_}
-use native.Mathlib.Omega.{arith}
+use borrow.Author.Needs.{needs}
 use Rattle.machine.specs.Layout.{field}
 use Rattle.cells.specs.Cells.{checkedTo}
 use Rattle.admit.proofs.Admitting.{words-refused, words-passed}
-use borrow.Author.Needs.{needs}
 use Rattle.admit.proofs.check_words.Statement.{statement}
 use Rattle.admit.proofs.check_words.Tie as tie
-use Rattle.admit.proofs.check_words.Reads as reads
-use Rattle.admit.proofs.check_words.Lts as lts
-use Rattle.cells.proofs.check_cells.Reads as check-cells-reads
-use Rattle.cells.proofs.check_entries.Reads as check-entries-reads
 
--- src/lib.rt:64:9
 check-cells-requires : tie.Need-check-cells-requires
 unfolding field
 check-cells-requires c κs = let p = c .before .before .before .before .before .pre in record { top = p .fits .heap; small = p .sizes .heap; low = p .sizes .stack; room = p .right .room; arguments = p .fits .control }
 
--- src/lib.rt:66:26
 enum-known-checked : tie.Need-enum-known-checked
 enum-known-checked c = search needs
 
--- src/lib.rt:67:65
 enum-told : tie.Need-enum-told
 enum-told c = search needs
 
--- src/lib.rt:67:28
 check-entries-requires : tie.Need-check-entries-requires
 unfolding field
 check-entries-requires c κs = let p = c .before .before .before .before .before .before .before .before .pre in record { registers = p .sizes .least; top = p .fits .trail; room = p .right .room }
 
--- src/lib.rt:60:1
 returns : tie.Need-returns
 returns c = words-refused (ap checkedTo (sym (c .before .checked .given .1)) ∙ c .before .before .before .check-cells .ensures _ refl refl refl (c .before .before .before .before .before .before .before .before .before .pre .right))
 
--- src/lib.rt:60:1
 returns-2 : tie.Need-returns-2
 returns-2 c = words-passed (ap checkedTo (sym (c .before .enum-told .given .1)) ∙ c .before .before .before .check-cells .ensures _ refl refl refl (c .before .before .before .before .before .before .before .before .before .pre .right)) (c .check-entries .ensures _ refl refl refl (c .before .before .before .before .before .before .before .before .before .pre .right))
 

@@ -1,12 +1,12 @@
 -- `cells::check_cells` meets its contract: all good is no refusal, else 5 is looked for and then 6. Assumes nothing.
 use mathlib.Core.Path.{sym, ap, _∙_}
 use native.Mathlib.Omega.{arith}
+use borrow.Author.Needs.{needs}
 use Rattle.machine.specs.Layout.{field}
 use Rattle.machine.proofs.Firsts.{else-passes, else-refuses}
+use Rattle.machine.proofs.Injective.{refusal-refuses}
 use Rattle.cells.specs.Cells.{checkedTo}
-use Rattle.cells.proofs.Areas.{refusal-refuses}
 use Rattle.cells.proofs.Bridge.{cells-bridge}
-use borrow.Author.Needs.{needs}
 use Rattle.cells.proofs.check_cells.Statement.{statement}
 use Rattle.cells.proofs.check_cells.Tie as tie
 

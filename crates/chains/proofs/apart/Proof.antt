@@ -1,10 +1,11 @@
 -- `chains::apart` meets its contract: every note passed is below `several`. Assumes nothing.
 use Prim.Native.Nat.{ℕ, _-_, _≤_, _<_}
 use mathlib.Core.Path.{refl}
-use borrow.Author.Count.{below-more}
 use native.Mathlib.Omega.{arith}
+use borrow.Author.Count.{below-more}
+use Rattle.machine.specs.Roles.{noteAt}
 use Rattle.machine.proofs.Tests.{true-false}
-use Rattle.chains.specs.Notes.{several, noteAt}
+use Rattle.chains.specs.Notes.{several}
 use Rattle.chains.proofs.apart.Statement.{statement}
 use Rattle.chains.proofs.apart.Tie as tie
 

@@ -17,14 +17,14 @@ abbrev μ-loop : tie.MeasureT-loop
 loop-holds : tie.Need-loop-holds Inv-loop μ-loop
 loop-holds c = (omega arith, omega arith, gains-none)
 
-mul-joined : tie.Need-mul-joined Inv-loop μ-loop
-mul-joined c = omega arith
+mul-joined-cell : tie.Need-mul-joined-cell Inv-loop μ-loop
+mul-joined-cell c = omega arith
 
-slice-read-joined : tie.Need-slice-read-joined Inv-loop μ-loop
-slice-read-joined c = omega arith
+slice-read-joined-cell : tie.Need-slice-read-joined-cell Inv-loop μ-loop
+slice-read-joined-cell c = omega arith
 
-joined-requires : tie.Need-joined-requires Inv-loop μ-loop
-joined-requires c κs = search needs
+joined-cell-requires : tie.Need-joined-cell-requires Inv-loop μ-loop
+joined-cell-requires c κs = search needs
 
 mul-work : tie.Need-mul-work Inv-loop μ-loop
 mul-work c = omega arith
@@ -41,7 +41,7 @@ loop-less c = omega arith
 loop-again : tie.Need-loop-again Inv-loop μ-loop
 loop-again c =
     let v = c .before .before .before .loop .inv in
-    (omega arith, omega arith, gains-more (v .0) (omega (arith, v .2 .kept .same)) (v .2) (c .joined .ensures))
+    (omega arith, omega arith, gains-more (v .0) (omega (arith, v .2 .kept .same)) (v .2) (c .joined-cell .ensures))
 
 same-length : tie.Need-same-length Inv-loop μ-loop
 same-length c = c .before .loop .inv .2 .kept .same
@@ -56,9 +56,9 @@ note-cells-spec =
     Inv-loop
     μ-loop
     loop-holds
-    mul-joined
-    slice-read-joined
-    joined-requires
+    mul-joined-cell
+    slice-read-joined-cell
+    joined-cell-requires
     mul-work
     slice-write-work
     add-i

@@ -1,44 +1,32 @@
-use Prim.Native.Nat.{ℕ, _/_, _≤_, _<_, _-_, _+_, _*_}
-use mathlib.Core.Path.{_≡_, sym, ap, _∙_, refl}
-use mathlib.Core.Logic.{⊎-elim}
-use mathlib.Core.List.{_++_}
-use native.Mathlib.Omega.{arith}
-use Rattle.cell.specs.Word.{valueOf, tagOf, CONST, stackBase, withValue}
+-- `counts::moved_word` meets its contract: a constant and a stack address stay, and a heap value becomes the half of its count. Assumes
+-- nothing.
+use Prim.Native.Nat.{ℕ, _<_}
+use mathlib.Core.Path.{_≡_, sym, ap, _∙_}
 use mathlib.Core.Logic.{_≢_}
-use lib.ListN.{getD}
+use native.Mathlib.Omega.{arith}
+use borrow.Author.Needs.{needs}
+use Rattle.cell.specs.Word.{CONST, valueOf, tagOf, withValue}
 use Rattle.machine.specs.Moved.{below, moveWord}
 use Rattle.machine.proofs.Words.{move-const, move-ref, move-high}
 use Rattle.counts.proofs.Counting.{half}
-use borrow.Author.Needs.{needs}
 use Rattle.counts.proofs.moved_word.Statement.{statement}
 use Rattle.counts.proofs.moved_word.Tie as tie
-use Rattle.counts.proofs.moved_word.Reads as reads
-use Rattle.counts.proofs.moved_word.Lts as lts
-use Rattle.cell.proofs.tag.Reads as tag-reads
-use Rattle.cell.proofs.value.Reads as value-reads
-use Rattle.cell.proofs.with_value.Reads as with-value-reads
 
--- src/lib.rt:47:8
 tag-requires : tie.Need-tag-requires
 tag-requires c κs = search needs
 
--- src/lib.rt:48:9
 returns : tie.Need-returns
 returns c = λ cells k. sym (move-const _ _ (omega arith))
 
--- src/lib.rt:50:9
 value-requires : tie.Need-value-requires
 value-requires c κs = search needs
 
--- src/lib.rt:52:17
 cast-x : tie.Need-cast-x
 cast-x c = search needs
 
--- src/lib.rt:53:39
 mul-with-value : tie.Need-mul-with-value
 mul-with-value c = search needs
 
--- src/lib.rt:53:39
 -- what a word refers to in the heap lies below top
 target : (c : tie.After-shared-slice-known2) → c .before .before .value .result < c .before .before .before .before .before .before .args .top
 target c =
@@ -49,11 +37,9 @@ target c =
 shared-slice-read-with-value : tie.Need-shared-slice-read-with-value
 shared-slice-read-with-value c = omega (arith, target c)
 
--- src/lib.rt:53:9
 with-value-requires : tie.Need-with-value-requires
 with-value-requires c κs = omega (arith, target c, c .before .before .before .before .before .before .pre .0 .words (c .before .before .value .result) (target c))
 
--- src/lib.rt:53:9
 returns-2 : tie.Need-returns-2
 returns-2 c = λ cells k.
     let d = c .before .before .before .before .before .before .before in
@@ -64,7 +50,6 @@ returns-2 c = λ cells k.
     move-ref (below cells) (d .args .word) n (omega arith) ∙ ap (λ (x : ℕ). withValue (d .args .word) (below cells x)) e in
     c .with-value .ensures ∙ ap (withValue (d .args .word)) (half k v (target (c .before))) ∙ sym moves
 
--- src/lib.rt:43:1
 returns-3 : tie.Need-returns-3
 returns-3 c = λ cells k. sym (move-high _ _ (omega arith))
 

@@ -49,6 +49,7 @@ push-word-requires c κs =
     let o = on-top (c .before .before .before) in
     record {
       inside = λ x r. omega (arith, d .same, p .0 _ (omega (arith, d .same)) x r);
+      deep = omega (arith, d .same);
       small = omega (arith, d .same);
       low = o .2;
     }

@@ -11,7 +11,7 @@ use Rattle.mark.proofs.push_arguments.Statement.{statement}
 use Rattle.mark.proofs.push_arguments.Tie as tie
 
 abbrev Inv-loop : tie.InvT-loop
-Inv-loop control heap marks₀ end t₀ i₀ marks t i = (fixed ≤ i) × (i ≤ end) × Pushed (Named heap control (λ (j : ℕ). fixed ≤ j) i) marks₀ 0 marks t
+Inv-loop control heap marks₀ end t₀ i₀ marks t i = (fixed ≤ i) × (i ≤ end) × Pushed heap (Named heap control (λ (j : ℕ). fixed ≤ j) i) marks₀ 0 marks t
 
 abbrev μ-loop : tie.MeasureT-loop
 μ-loop control heap marks₀ end t₀ i₀ marks t i = end - i

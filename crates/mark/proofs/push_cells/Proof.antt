@@ -2,18 +2,19 @@
 -- No push changes a note. Assumes nothing.
 use Prim.Native.Nat.{ℕ, _+_, _≤_, _-_}
 use mathlib.Core.Path.{_≡_, refl, sym, _∙_}
-use lib.Seq.{length-take-le}
 use mathlib.Core.Logic.{⊎-elim}
 use native.Mathlib.Omega.{arith}
+use lib.Seq.{length-take-le}
 use lib.ListN.{length, getD, take}
+use Rattle.machine.proofs.Parts.{rest-at}
 use Rattle.mark.specs.Roots.{Named, NotedCell, PushedBelow}
 use Rattle.mark.proofs.Stacks.{pushable-part, pushable-after, pushed-none}
-use Rattle.mark.proofs.Roots.{named-more, named-skip, rest-at, below-put}
+use Rattle.mark.proofs.Roots.{named-more, named-skip, below-put}
 use Rattle.mark.proofs.push_cells.Statement.{statement}
 use Rattle.mark.proofs.push_cells.Tie as tie
 
 abbrev Inv-loop : tie.InvT-loop
-Inv-loop stack heap work₀ h top notes t₀ i₀ work t i = (i ≤ length stack) × PushedBelow h (Named heap stack (NotedCell heap work₀) i) work₀ top work t
+Inv-loop stack heap work₀ h top notes t₀ i₀ work t i = (i ≤ length stack) × PushedBelow h heap (Named heap stack (NotedCell heap work₀) i) work₀ top work t
 
 abbrev μ-loop : tie.MeasureT-loop
 μ-loop stack heap work₀ h top notes t₀ i₀ work t i = length stack - i

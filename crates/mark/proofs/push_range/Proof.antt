@@ -8,10 +8,10 @@ use Rattle.mark.proofs.push_range.Statement.{statement}
 use Rattle.mark.proofs.push_range.Tie as tie
 
 abbrev Inv-loop : tie.InvT-loop
-Inv-loop marks₀ top a z t₀ x₀ marks t x = (a ≤ x) × (x ≤ max a z) × Pushed (Range a x) marks₀ top marks t
+Inv-loop heap marks₀ top a z t₀ x₀ marks t x = (a ≤ x) × (x ≤ max a z) × Pushed heap (Range a x) marks₀ top marks t
 
 abbrev μ-loop : tie.MeasureT-loop
-μ-loop marks₀ top a z t₀ x₀ marks t x = z - x
+μ-loop heap marks₀ top a z t₀ x₀ marks t x = z - x
 
 loop-holds : tie.Need-loop-holds Inv-loop μ-loop
 loop-holds c = search (needs, range-none)
@@ -19,8 +19,8 @@ loop-holds c = search (needs, range-none)
 push-requires : tie.Need-push-requires Inv-loop μ-loop
 push-requires c κs =
     let v = c .before .before .loop .inv in
-    let p = pushable-after (c .before .before .before .before .pre) (v .2) in
-    omega (arith, p .inside (c .before .before .loop .x) (omega arith), p .small, p .low)
+    let p = pushable-after (c .before .before .before .before .before .pre) (v .2) in
+    omega (arith, p .inside (c .before .before .loop .x) (omega arith))
 
 add-x : tie.Need-add-x Inv-loop μ-loop
 add-x c = omega arith

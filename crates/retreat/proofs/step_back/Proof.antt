@@ -1,7 +1,6 @@
 -- `retreat::step_back` meets its contract: what 1 to 7 refuse is answered so, and what passes them is accepted, as `retreat` requires.
 -- Assumes nothing.
 use mathlib.Core.Path.{_≡_, sym, ap, _∙_}
-use mathlib.Core.Logic.{_≢_}
 use native.Mathlib.Omega.{arith}
 use borrow.Author.Needs.{needs}
 use lib.ListN.{length}
@@ -10,8 +9,7 @@ use Rattle.machine.specs.Refusals.{accepted, verdict}
 use Rattle.machine.specs.Answers.{verdictOf}
 use Rattle.machine.proofs.Verdicts.{verdict-accepted}
 use Rattle.cells.specs.Cells.{checkedTo}
-use Rattle.cells.proofs.Areas.{refusal-refuses}
-use Rattle.retreat.proofs.Promising.{refusal-given, lent-cleared, answer-given}
+use Rattle.retreat.proofs.Promising.{refusal-given, answer-given}
 use Rattle.retreat.proofs.step_back.Statement.{statement}
 use Rattle.retreat.proofs.step_back.Tie as tie
 
@@ -64,9 +62,7 @@ same-length-4 c = search needs
 returns : tie.Need-returns
 returns c =
     let d = c .before .before .before .before .before in
-    let r = c .before .checked .given .0 .0 in
-    let n : verdict (length (d .before .before .before .before .before .before .before .before .before .before .args .work .now)) (image d) ≢ accepted = λ z. refusal-refuses r (stops c ∙ z) in
-    refusal-given (image d) _ r (stops c) n (d .admit .ensures .refused n)
+    refusal-given (image d) _ (c .before .checked .given .0 .0) (stops c) (d .admit .ensures .refused)
 
 same-length-5 : tie.Need-same-length-5
 same-length-5 c = search needs
@@ -85,7 +81,7 @@ returns-2 c =
     let e = c .before .before .before .before .before .before .before .before .before .before .before .before .before .before in
     let p = passes e in
     let d = e .before .before .before .before in
-    answer-given (image d) _ p (c .before .before .before .before .before .before .before .before .before .before .retreat .ensures) (c .before .before .clear .ensures ∙ lent-cleared (image d) _ p _ (d .admit .ensures .passed p .rest))
+    answer-given (image d) _ p (c .before .before .before .before .before .before .before .before .before .before .retreat .ensures) _ (d .admit .ensures .passed p .rest) (c .before .before .clear .ensures)
 
 pub step-back-spec : {M : Type 1} → statement M
 step-back-spec =

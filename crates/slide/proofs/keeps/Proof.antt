@@ -2,7 +2,8 @@
 use mathlib.Core.Path.{sym, _∙_}
 use native.Mathlib.Omega.{arith}
 use borrow.Author.Needs.{needs}
-use Rattle.slide.proofs.Entries.{odd-cell, keeps-heap, keeps-stack}
+use Rattle.counts.proofs.Counting.{odd-cell}
+use Rattle.slide.proofs.Entries.{keeps-heap, keeps-stack}
 use Rattle.slide.proofs.keeps.Statement.{statement}
 use Rattle.slide.proofs.keeps.Tie as tie
 

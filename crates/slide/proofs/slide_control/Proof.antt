@@ -7,10 +7,10 @@ use mathlib.Core.List.{List}
 use native.Mathlib.Omega.{arith}
 use lib.ListN.{length, getD, set, length-set}
 use Rattle.machine.specs.Layout.{T, H, N, placeOf, fixed, field, argument}
+use Rattle.machine.proofs.InPlace.{InPlace, in-place-none, in-place-more, in-place-skip, in-place-end}
 use Rattle.counts.specs.Counts.{Counting}
 use Rattle.slide.specs.Slides.{moveControlWord}
 use Rattle.slide.proofs.Words.{control-T, control-H, control-argument, control-low, control-high}
-use Rattle.slide.proofs.InPlace.{InPlace, in-place-none, in-place-more, in-place-skip, in-place-end}
 use Rattle.slide.proofs.slide_control.Statement.{statement}
 use Rattle.slide.proofs.slide_control.Tie as tie
 

@@ -10,9 +10,9 @@ use lib.Dec.{eqb}
 use lib.ListN.{getD}
 use Rattle.machine.specs.Moved.{below, moveWord}
 use Rattle.counts.specs.Counts.{Counting}
+use Rattle.counts.proofs.Counting.{odd-cell}
 use Rattle.slide.specs.Closed.{Passed, Closed}
 use Rattle.slide.proofs.Closing.{Turned, stored, skipped, passed-none, passed-at, passed-turn, closed-none, closed-turn, closed-end}
-use Rattle.slide.proofs.Entries.{odd-cell}
 use Rattle.slide.proofs.slide_heap.Statement.{statement}
 use Rattle.slide.proofs.slide_heap.Tie as tie
 

@@ -7,9 +7,9 @@ use mathlib.Core.List.{List}
 use native.Mathlib.Omega.{arith}
 use lib.ListN.{length}
 use Rattle.machine.specs.Moved.{below}
+use Rattle.machine.proofs.InPlace.{InPlace, in-place-none, in-place-more, in-place-end}
 use Rattle.counts.specs.Counts.{Counting}
 use Rattle.slide.specs.Slides.{moveCell}
-use Rattle.slide.proofs.InPlace.{InPlace, in-place-none, in-place-more, in-place-end}
 use Rattle.slide.proofs.slide_stack.Statement.{statement}
 use Rattle.slide.proofs.slide_stack.Tie as tie
 

@@ -3,8 +3,9 @@
 use mathlib.Core.List.{_++_}
 use borrow.Author.Needs.{needs}
 use Rattle.machine.specs.declared.Area.{Area}
-use Rattle.listing.specs.Text.{ascii, nameOf}
-use Rattle.listing.proofs.Puttings.{puts-of}
+use Rattle.text.specs.Line.{ascii}
+use Rattle.listing.specs.Text.{nameOf}
+use Rattle.text.proofs.Puttings.{puts-of}
 use Rattle.listing.proofs.lines.put_area.Statement.{statement}
 use Rattle.listing.proofs.lines.put_area.Tie as tie
 

@@ -5,8 +5,9 @@ use native.Mathlib.Omega.{arith}
 use lib.Seq.{take-length}
 use borrow.Author.Needs.{needs}
 use Rattle.machine.specs.Layout.{N, H, T, placeOf, field}
-use Rattle.listing.specs.Text.{ascii, line, areaLines}
-use Rattle.listing.proofs.Puttings.{puts-join, puts-of}
+use Rattle.text.specs.Line.{ascii, line}
+use Rattle.listing.specs.Text.{areaLines}
+use Rattle.text.proofs.Puttings.{puts-join, puts-of}
 use Rattle.listing.proofs.lines.put_areas.Statement.{statement}
 use Rattle.listing.proofs.lines.put_areas.Tie as tie
 

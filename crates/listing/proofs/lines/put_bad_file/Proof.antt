@@ -3,8 +3,8 @@
 use borrow.Author.Needs.{needs}
 use Rattle.freeze.specs.Verdicts.{verdictOf}
 use Rattle.freeze.specs.declared.FileRefusal.{FileRefusal}
-use Rattle.listing.specs.Puts.{fileVerdictText}
-use Rattle.listing.proofs.Puttings.{short-of}
+use Rattle.listing.specs.Lines.{fileVerdictText}
+use Rattle.text.proofs.Puttings.{short-of}
 use Rattle.listing.proofs.lines.put_bad_file.Statement.{statement}
 use Rattle.listing.proofs.lines.put_bad_file.Tie as tie
 

@@ -6,7 +6,7 @@ use Rattle.freeze.specs.RoundTrips.{WordImage}
 use Rattle.freeze.specs.Thaw.{imageOf}
 use Rattle.listing.specs.Text.{collectedText}
 use Rattle.listing.proofs.Lengths.{areas-short}
-use Rattle.listing.proofs.Puttings.{short-exact, short-within, short-join}
+use Rattle.text.proofs.Puttings.{short-exact, short-within, short-join}
 use Rattle.listing.proofs.lines.put_collected.Statement.{statement}
 use Rattle.listing.proofs.lines.put_collected.Tie as tie
 

@@ -3,8 +3,8 @@
 use borrow.Author.Needs.{needs}
 use Rattle.machine.specs.Answers.{verdictOf}
 use Rattle.machine.specs.declared.Refusal.{Refusal}
-use Rattle.listing.specs.Puts.{verdictText}
-use Rattle.listing.proofs.Puttings.{short-of}
+use Rattle.listing.specs.Lines.{verdictText}
+use Rattle.text.proofs.Puttings.{short-of}
 use Rattle.listing.proofs.lines.put_refusal.Statement.{statement}
 use Rattle.listing.proofs.lines.put_refusal.Tie as tie
 

@@ -1,0 +1,3 @@
+pub mod Puttings
+pub mod Decimals
+pub mod Lengths
