@@ -6,12 +6,10 @@
 #include "peer.h"
 
 /* A work word of a heap cell, work[index].
-   While marking: KEPT, how many cells after this one are marked or about to
-   be (RUN), and the next pending cell (LINK, index + 1, 0 for none).
+   While marking: KEPT and the next pending cell (LINK, index + 1, 0 for none).
    After it: KEPT and d(index). */
 #define KEPT 2147483648u
 #define LINK_MASK 2097151u
-enum { RUN_SHIFT = 21, RUN_MASK = 255 };
 
 /* A work word of a stack word, work[heap_len + index]: its roles.
    A cell has the bit of a kept heap cell, so that a trail entry asks one

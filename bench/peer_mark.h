@@ -7,37 +7,23 @@
 
 /* All three answer the new top of the pending cells, index + 1, 0 for none. */
 
-/* Marks a cell; one that refers to nothing is not pended. The run is how many
-   cells after it are marked too, or just about to be. */
-static inline uint32_t mark_new(const uint32_t *heap, uint32_t *work,
-                                uint32_t i, uint32_t run, uint32_t top)
-{
-    work[i] = KEPT | run << RUN_SHIFT | top;
-    return tag_of(heap[i]) == CONST ? top : i + 1;
-}
-
+/* Marks a cell; one that refers to nothing is not pended. */
 static inline uint32_t mark_cell(const uint32_t *heap, uint32_t *work,
                                  uint32_t i, uint32_t top)
 {
-    return work[i] ? top : mark_new(heap, work, i, 0, top);
+    if (work[i])
+        return top;
+    work[i] = KEPT | top;
+    return tag_of(heap[i]) == CONST ? top : i + 1;
 }
 
-/* Marks a structure's cells, from i to end. By the runs a structure met again,
-   or one that overlaps others, is passed over in a few steps instead of 255;
-   and a functor that only a VAR marked, whose run is 0, still has its
-   arguments marked. */
+/* Marks a structure's cells, from i to end. A functor may be marked by a VAR
+   alone, so every cell is looked at. */
 static inline uint32_t mark_structure(const uint32_t *heap, uint32_t *work,
                                       uint32_t i, uint32_t end, uint32_t top)
 {
-    while (i < end) {
-        const uint32_t mark = work[i], rest = end - 1 - i;
-        const uint32_t run = mark >> RUN_SHIFT & RUN_MASK;
-        if (!mark)
-            top = mark_new(heap, work, i, rest, top);
-        else if (run < rest)
-            work[i] = mark + ((rest - run) << RUN_SHIFT);
-        i += run + 1;
-    }
+    for (; i < end; i++)
+        top = mark_cell(heap, work, i, top);
     return top;
 }
 

@@ -5,6 +5,29 @@
 
 const char product_name[] = "product";
 
+#ifdef FROM_MODULE
+/* The module keeps x86-64's way to hand back a struct: through a pointer that
+   comes before the parameters. */
+bik_collected *module_collect(bik_collected *given, uint32_t *control,
+                              size_t control_len, uint32_t *stack,
+                              size_t stack_len, uint32_t *heap, size_t heap_len,
+                              uint32_t *trail, size_t trail_len, uint32_t *work,
+                              size_t work_len) __asm__("bik_collect");
+
+static bik_collected collect(uint32_t *control, size_t control_len,
+                             uint32_t *stack, size_t stack_len, uint32_t *heap,
+                             size_t heap_len, uint32_t *trail, size_t trail_len,
+                             uint32_t *work, size_t work_len)
+{
+    bik_collected given;
+    module_collect(&given, control, control_len, stack, stack_len, heap,
+                   heap_len, trail, trail_len, work, work_len);
+    return given;
+}
+#else
+#define collect bik_collect
+#endif
+
 peer_collected product_collect(uint32_t *control, size_t control_len,
                                uint32_t *stack, size_t stack_len,
                                uint32_t *heap, size_t heap_len,
@@ -12,8 +35,8 @@ peer_collected product_collect(uint32_t *control, size_t control_len,
                                uint32_t *work, size_t work_len)
 {
     const bik_collected given =
-        bik_collect(control, control_len, stack, stack_len, heap, heap_len,
-                    trail, trail_len, work, work_len);
+        collect(control, control_len, stack, stack_len, heap, heap_len, trail,
+                trail_len, work, work_len);
     return (peer_collected){.refusal = given.refusal,
                             .area = given.area,
                             .index = given.index,
