@@ -82,7 +82,7 @@ module _ (file : List ℕ) (bytes : Bytes file) (n : AreaCounts) (own : n ≡ co
       ap (λ (l : List ℕ). getD l (0 + placeOf f) 0) e
       ∙ List·getD-append ws (drop (length ws) lent) 0 (0 + placeOf f) (omega (arith, length-words file CONTROL controlAt (n .control)))
 
-  counts-same : (Z : Image) (lent : List ℕ) → Z .control ≡ front lent (imageIn n file .control) → length (Z .stack) ≡ n .stack → countsOf Z ≡ n
+  pub counts-same : (Z : Image) (lent : List ℕ) → Z .control ≡ front lent (imageIn n file .control) → length (Z .stack) ≡ n .stack → countsOf Z ≡ n
   unfolding countsOf agree
   counts-same Z lent e s =
       let a = both-true _ _ (p .agrees) in

@@ -16,9 +16,13 @@ pub use kinds::STACK;
 pub use kinds::TRAIL;
 pub use kinds::UNUSED;
 pub use kinds::body_length;
+pub use kinds::record_size;
+pub use reading::counts_in;
 pub use reading::thaw;
 pub use records::offset_after;
 pub use records::record_at;
+pub use sizes::within;
+pub use writing::file_length;
 pub use writing::freeze;
 
 // Why a file is not read or not written, with the offset where it need not be 0.

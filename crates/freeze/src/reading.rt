@@ -109,7 +109,7 @@ fn check_end(file: &[u8], from: usize, end: usize, n: AreaCounts) -> Checked
 }
 
 // The four counts that the record at the file's start holds.
-fn counts_in(file: &[u8]) -> AreaCounts
+pub fn counts_in(file: &[u8]) -> AreaCounts
     requires { ⌜ controlAt ≤ length (now file) ⌝ }
     ensures { λ r. ⌜ r ≡ countsIn (now (file .entry)) ⌝ }
 {

@@ -67,7 +67,7 @@ fn write_counts(n: AreaCounts, output: &mut [u8]) -> usize
 }
 
 // How long the file with these counts is.
-fn file_length(n: AreaCounts) -> usize
+pub fn file_length(n: AreaCounts) -> usize
     requires { ⌜ Small n ⌝ }
     ensures { λ r. ⌜ r ≡ pastEnd n ⌝ }
 {

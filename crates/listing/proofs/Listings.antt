@@ -64,10 +64,10 @@ front-back zero l = refl
 front-back (suc n) [] = refl
 front-back (suc n) (x ∷ l) = ap (λ (m : List ℕ). x ∷ m) (front-back n l)
 
-accepted-refused : {number : ℕ} {place : Where} → accepted ≡ refused number place → ⊥
+pub accepted-refused : {number : ℕ} {place : Where} → accepted ≡ refused number place → ⊥
 accepted-refused e = let z : _≡_ {A = ℕ} 0 1 = cc in omega arith
 
-refusal-numbered : (q : Refusal) → (number : ℕ) × (place : Where) × (verdictOf q ≡ refused number place)
+pub refusal-numbered : (q : Refusal) → (number : ℕ) × (place : Where) × (verdictOf q ≡ refused number place)
 unfolding verdictOf
 refusal-numbered Sizes = (1, nowhere, refl)
 refusal-numbered Registers = (2, nowhere, refl)
@@ -80,7 +80,7 @@ refusal-numbered NoChoicePoint = (8, nowhere, refl)
 refusal-numbered ControlShort = (9, nowhere, refl)
 
 -- the front of a stack put back where it was
-join-back : (n : ℕ) (areas : Image) → joined areas (justStack n areas) ≡ areas
+pub join-back : (n : ℕ) (areas : Image) → joined areas (justStack n areas) ≡ areas
 unfolding joined
 join-back n areas = λ i. record { control = areas .control; stack = front-back n (areas .stack) i; heap = areas .heap; trail = areas .trail }
 
@@ -100,12 +100,12 @@ module _ (file : List ℕ) (lent : Image) (work : List ℕ) where
       (refused-outcome (files.verdictOf q) e (refusal-refuses q))
 
   -- what was collected is what was read, with the counted front of the stack
-  taken-is : (n : AreaCounts) (areas : Image) → Thaws file lent (thawing.Areas n) areas → justStack (n .stack) areas ≡ taken file lent
+  pub taken-is : (n : AreaCounts) (areas : Image) → Thaws file lent (thawing.Areas n) areas → justStack (n .stack) areas ≡ taken file lent
   taken-is n areas t =
       let a = thaws-filled file lent n areas t in
       ap (justStack (n .stack)) (a .3) ∙ ap (λ (m : AreaCounts). justStack (m .stack) (filled lent (imageIn m file))) (a .1)
 
-  thawed-is : (n : AreaCounts) (areas : Image) → Thaws file lent (thawing.Areas n) areas → areas ≡ thawed file lent
+  pub thawed-is : (n : AreaCounts) (areas : Image) → Thaws file lent (thawing.Areas n) areas → areas ≡ thawed file lent
   thawed-is n areas t =
       let a = thaws-filled file lent n areas t in
       a .3 ∙ ap (λ (m : AreaCounts). filled lent (imageIn m file)) (a .1)

@@ -1,13 +1,36 @@
 // The listing: a freeze file collected and written as text. What is right stands in specs/, under its sentences of document 01.
 mod lines;
+mod numbers;
 
 use freeze::Thawed;
 use lines::put_bad_file;
 use lines::put_collected;
+pub use lines::put_file;
 pub use lines::put_refusal;
 use machine::Collected;
+use machine::Place;
+pub use numbers::fault_of;
+pub use numbers::reason_of;
 ghost use Rattle.freeze.specs.Thaw.{imageOf};
 ghost use Rattle.listing.specs.Lists.{Lists, CountsBytes};
+
+// Whether a refusal names a place.
+pub enum Where {
+    Nowhere,
+    In(Place),
+}
+
+// Why an image is refused: the number, and the place where there is one.
+pub struct Reason {
+    pub number: usize,
+    pub place: Where,
+}
+
+// Why a file is not read: the number and the offset.
+pub struct Fault {
+    pub number: usize,
+    pub offset: usize,
+}
 
 // Reads a freeze file into four lent areas, collects, and writes the listing into a lent output; answers how many bytes it wrote.
 pub fn list(

@@ -1,4 +1,7 @@
 // The lines of a listing, each from a place of the output on.
+use crate::Where;
+use crate::numbers::fault_of;
+use crate::numbers::reason_of;
 use freeze::FileRefusal;
 use machine::Area;
 use machine::Counts;
@@ -97,21 +100,16 @@ fn put_placed(output: &mut [u8], at: usize, number: usize, place: Place) -> usiz
 pub fn put_refusal(output: &mut [u8], at: usize, refusal: Refusal) -> usize
     ensures { λ r. ⌜ PutsShort lineMost (now (output .entry)) at (verdictText (verdictOf refusal)) r (now (output .exit)) ⌝ }
 {
-    match refusal {
-        Refusal::Sizes => put_number_alone(output, at, 1),
-        Refusal::Registers => put_number_alone(output, at, 2),
-        Refusal::Chain => put_number_alone(output, at, 3),
-        Refusal::Roles => put_number_alone(output, at, 4),
-        Refusal::Bits(place) => put_placed(output, at, 5, place),
-        Refusal::Reference(place) => put_placed(output, at, 6, place),
-        Refusal::Entry(place) => put_placed(output, at, 7, place),
-        Refusal::NoChoicePoint => put_number_alone(output, at, 8),
-        Refusal::ControlShort => put_number_alone(output, at, 9),
+    let reason = reason_of(refusal);
+    let site = reason.place;
+    match site {
+        Where::Nowhere => put_number_alone(output, at, reason.number),
+        Where::In(place) => put_placed(output, at, reason.number, place),
     }
 }
 
 // A number and an offset.
-fn put_file(output: &mut [u8], at: usize, number: usize, offset: usize) -> usize
+pub fn put_file(output: &mut [u8], at: usize, number: usize, offset: usize) -> usize
     ensures { λ r. ⌜ PutsShort lineMost (now (output .entry)) at (fileText number offset) r (now (output .exit)) ⌝ }
 {
     let number_at = put_bytes(output, at, b"file");
@@ -124,16 +122,8 @@ fn put_file(output: &mut [u8], at: usize, number: usize, offset: usize) -> usize
 pub fn put_bad_file(output: &mut [u8], at: usize, refusal: FileRefusal) -> usize
     ensures { λ r. ⌜ PutsShort lineMost (now (output .entry)) at (fileVerdictText (fileVerdictOf refusal)) r (now (output .exit)) ⌝ }
 {
-    match refusal {
-        FileRefusal::Sizes => put_file(output, at, 1, 0),
-        FileRefusal::Registers => put_file(output, at, 2, 0),
-        FileRefusal::Cut(offset) => put_file(output, at, 10, offset),
-        FileRefusal::Kind(offset) => put_file(output, at, 11, offset),
-        FileRefusal::Room => put_file(output, at, 12, 0),
-        FileRefusal::After(offset) => put_file(output, at, 13, offset),
-        FileRefusal::Differ => put_file(output, at, 14, 0),
-        FileRefusal::Output => put_file(output, at, 15, 0),
-    }
+    let fault = fault_of(refusal);
+    put_file(output, at, fault.number, fault.offset)
 }
 
 // The whole text of a collection.

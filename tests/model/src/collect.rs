@@ -78,17 +78,22 @@ pub fn moved(word: u32, reached: &Reached) -> u32 {
     }
 }
 
+/// "kept if it is the address of a reached heap cell or of a stack word that is a cell"
+pub fn is_kept(entry: u32, checked: &Checked, reached: &Reached) -> bool {
+    match address(entry) {
+        Address::Heap(x) => reached.contains(x),
+        Address::Stack(x) => checked.roles.is_cell(x),
+    }
+}
+
 /// For each trail entry below T whether it is kept.
 struct Entries(Vec<bool>);
 
 impl Entries {
-    /// "kept if it is the address of a reached heap cell or of a stack word that is a cell"
     fn kept(old: &Image, checked: &Checked, reached: &Reached) -> Entries {
         let entries = &old.trail[..old.control_header().t];
-        let kept = entries.iter().map(|entry| match address(*entry) {
-            Address::Heap(x) => reached.contains(x),
-            Address::Stack(x) => checked.roles.is_cell(x),
-        });
+        let kept = entries.iter();
+        let kept = kept.map(|entry| is_kept(*entry, checked, reached));
         Entries(kept.collect())
     }
 

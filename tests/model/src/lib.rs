@@ -1,11 +1,13 @@
-//! A plain and slow model of document 01, written from the document and not from the code, with
-//! a generator of images and files and a comparison of any library against the model.
+//! A plain and slow model of document 01 and of document 02's orders as they land, written from
+//! the documents and not from the code, with a generator of images and files and a comparison of
+//! any library against the model.
 #![forbid(unsafe_code)]
 
 // The machine.
 pub mod chain;
 pub mod check;
 pub mod collect;
+pub mod figures;
 pub mod image;
 pub mod look_up;
 pub mod reached;
@@ -19,6 +21,7 @@ pub mod word;
 // Files and texts.
 pub mod freeze;
 pub mod listing;
+pub mod month;
 pub mod record;
 pub mod text;
 pub mod thaw;

@@ -12,19 +12,10 @@ pub const LISTING_TRAIL: usize = 512;
 
 /// Reads, collects and prints.
 pub fn listing(input: &[u8]) -> String {
-    // "buffers starting as zeros"
-    let mut image = Image {
-        control: vec![0; MOST_CONTROL],
-        stack: vec![0; LISTING_STACK],
-        heap: vec![0; LISTING_HEAP],
-        trail: vec![0; LISTING_TRAIL],
-    };
-    let counts = match thaw(input, &mut image) {
-        Ok(counts) => counts,
+    let mut image = match read_image(input) {
+        Ok(image) => image,
         Err(bad) => return bad_file_line(&bad),
     };
-    // "taking as the stack the counted front"; the other buffers are lent whole.
-    image.stack.truncate(counts.stack);
     let mut work = vec![0; image.work_needed()];
     match collect(&mut image, &mut work) {
         Ok(counts) => collected_text(&image, &counts),
@@ -32,11 +23,25 @@ pub fn listing(input: &[u8]) -> String {
     }
 }
 
-fn bad_file_line(bad: &BadFile) -> String {
+/// Reads one file into areas of the program's sizes, "buffers starting as zeros".
+pub fn read_image(file: &[u8]) -> Result<Image, BadFile> {
+    let mut image = Image {
+        control: vec![0; MOST_CONTROL],
+        stack: vec![0; LISTING_STACK],
+        heap: vec![0; LISTING_HEAP],
+        trail: vec![0; LISTING_TRAIL],
+    };
+    let counts = thaw(file, &mut image)?;
+    // "taking as the stack the counted front"; the other buffers are lent whole.
+    image.stack.truncate(counts.stack);
+    Ok(image)
+}
+
+pub fn bad_file_line(bad: &BadFile) -> String {
     format!("file {} {}\n", bad.number, bad.offset)
 }
 
-fn refused_line(refusal: &Refusal) -> String {
+pub fn refused_line(refusal: &Refusal) -> String {
     match refusal.place {
         None => format!("refused {}\n", refusal.number),
         Some(place) => format!(

@@ -14,6 +14,14 @@ pub struct FileCounts {
     pub trail: usize,
 }
 
+impl FileCounts {
+    /// How long a file with these counts is, from its kind 1 to its kind 6.
+    pub fn file_length(&self) -> usize {
+        let words = self.control + self.stack + self.heap + self.trail;
+        (1 + COUNTS_BYTES) + words * (1 + WORD_BYTES) + 1
+    }
+}
+
 /// Fills the fronts of the four lent areas from the file, or refuses and changes nothing.
 pub fn thaw(file: &[u8], lent: &mut Image) -> Result<FileCounts, BadFile> {
     if !areas_legal(lent) {
@@ -39,7 +47,8 @@ fn bad(number: u32, offset: usize) -> BadFile {
     BadFile { number, offset }
 }
 
-fn counts_at(file: &[u8], body: usize) -> FileCounts {
+/// The counts in the body of a whole counts record.
+pub fn counts_at(file: &[u8], body: usize) -> FileCounts {
     let count = |place: usize| number_at(file, body + place * WORD_BYTES) as usize;
     FileCounts {
         control: count(0),

@@ -3,6 +3,9 @@
 //! `expected FILE...` prints the listing of each freeze file, one after the other.
 //! `expected freeze` reads four lists from standard input and writes their file to standard output.
 //! `expected antt COUNT SEED` prints small images with all that the model says of them.
+//! `expected month` prints the report on the freeze files laid end to end on standard input.
+//! `expected month-input SEED ITEM` writes a month of the comparison, and
+//! `expected month-files SEED COUNT` one to measure, to standard output.
 
 use std::env;
 use std::fs;
@@ -10,14 +13,14 @@ use std::io::{self, Read, Write};
 use std::process::ExitCode;
 
 use model::antt::antt;
-use model::check::MOST_CONTROL;
 use model::freeze::file_of;
-use model::image::Image;
-use model::listing::{listing, LISTING_HEAP, LISTING_STACK, LISTING_TRAIL};
+use model::generate::month::{measured_file, month_input};
+use model::listing::{listing, read_image};
+use model::month::month;
 use model::text::read_four_lists;
-use model::thaw::thaw;
 
-const USAGE: &str = "usage: expected FILE... | expected freeze | expected antt COUNT SEED";
+const USAGE: &str = "usage: expected FILE... | expected freeze | expected antt COUNT SEED
+       expected month | expected month-input SEED ITEM | expected month-files SEED COUNT";
 
 fn main() -> ExitCode {
     let given: Vec<String> = env::args().skip(1).collect();
@@ -26,6 +29,9 @@ fn main() -> ExitCode {
         [] => Err(USAGE.to_string()),
         ["freeze"] => write_file(),
         ["antt", count, seed] => print_antt(count, seed),
+        ["month"] => print_month(),
+        ["month-input", seed, item] => write_month(seed, item),
+        ["month-files", seed, count] => write_files(seed, count),
         paths => print_listings(paths),
     };
     match done {
@@ -48,26 +54,44 @@ fn print_listings(paths: &[&str]) -> Result<(), String> {
 /// Writes any four lists as they are; lists that the reader refuses are named on standard error,
 /// since bad files are wanted as examples too.
 fn write_file() -> Result<(), String> {
-    let mut text = String::new();
-    let read = io::stdin().read_to_string(&mut text);
-    read.map_err(|error| format!("standard input: {error}"))?;
+    let text = String::from_utf8(input()?).map_err(|error| error.to_string())?;
     let file = file_of(&read_four_lists(&text)?);
-    let mut room = Image {
-        control: vec![0; MOST_CONTROL],
-        stack: vec![0; LISTING_STACK],
-        heap: vec![0; LISTING_HEAP],
-        trail: vec![0; LISTING_TRAIL],
-    };
-    if let Err(bad) = thaw(&file, &mut room) {
+    if let Err(bad) = read_image(&file) {
         eprintln!("note: a file refused {} at {}", bad.number, bad.offset);
     }
     put(&file)
 }
 
 fn print_antt(count: &str, seed: &str) -> Result<(), String> {
-    let count = count.parse().map_err(|_| USAGE.to_string())?;
-    let seed = seed.parse().map_err(|_| USAGE.to_string())?;
-    put(antt(count, seed).as_bytes())
+    put(antt(number(count)?, number(seed)?).as_bytes())
+}
+
+fn print_month() -> Result<(), String> {
+    put(month(&input()?).as_bytes())
+}
+
+fn write_month(seed: &str, item: &str) -> Result<(), String> {
+    put(&month_input(number(seed)?, number(item)?))
+}
+
+/// File by file, so that a month of any length can be made.
+fn write_files(seed: &str, count: &str) -> Result<(), String> {
+    let seed = number(seed)?;
+    for item in 0..number(count)? {
+        put(&measured_file(seed, item))?;
+    }
+    Ok(())
+}
+
+fn number(word: &str) -> Result<u64, String> {
+    word.parse().map_err(|_| USAGE.to_string())
+}
+
+fn input() -> Result<Vec<u8>, String> {
+    let mut bytes = Vec::new();
+    let read = io::stdin().read_to_end(&mut bytes);
+    read.map_err(|error| format!("standard input: {error}"))?;
+    Ok(bytes)
 }
 
 fn put(bytes: &[u8]) -> Result<(), String> {

@@ -51,7 +51,8 @@ fn some_lists(random: &mut Random) -> Image {
     lists
 }
 
-fn cut_to_counts(mut image: Image) -> Image {
+/// The words that a freeze file of the image holds.
+pub fn cut_to_counts(mut image: Image) -> Image {
     let control = image.control_header();
     image.control.truncate(FIXED_WORDS + control.n);
     image.heap.truncate(control.h);
@@ -60,7 +61,7 @@ fn cut_to_counts(mut image: Image) -> Image {
 }
 
 /// Lists for refusal 14: a count that differs from its control word, or a short control area.
-fn misstate(random: &mut Random, lists: &mut Image) {
+pub fn misstate(random: &mut Random, lists: &mut Image) {
     if random.percent(30) {
         let length = random.below(FIXED_WORDS);
         lists.control.truncate(length);
@@ -103,7 +104,7 @@ fn some_room(random: &mut Random, lists: &Image) -> [usize; 4] {
 }
 
 /// One change to the bytes.
-fn damage_file(random: &mut Random, file: &mut Vec<u8>) {
+pub fn damage_file(random: &mut Random, file: &mut Vec<u8>) {
     match random.below(9) {
         0 | 1 => file.truncate(random.below(file.len() + 1)),
         2 | 3 => change_kind(random, file),

@@ -1,4 +1,4 @@
-//! Random images and freeze files, sound and damaged.
+//! Random images, freeze files and months of them, sound and damaged.
 
 mod ages;
 mod damage;
@@ -6,6 +6,7 @@ mod damage_cells;
 mod damage_chain;
 pub mod file;
 mod layout;
+pub mod month;
 mod sizes;
 mod sound;
 mod spot;

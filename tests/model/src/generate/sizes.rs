@@ -2,6 +2,7 @@
 
 use crate::check::{MOST_HEAP, MOST_STACK};
 use crate::image::MOST_ARGUMENTS;
+use crate::listing::{LISTING_HEAP, LISTING_STACK, LISTING_TRAIL};
 use crate::random::Random;
 
 /// The most that each part of an image may have.
@@ -42,6 +43,14 @@ const LARGE: Sizes = Sizes {
     arguments: 12,
 };
 
+/// As much as the listing program takes.
+const LISTED: Sizes = Sizes {
+    stack: LISTING_STACK,
+    heap: LISTING_HEAP,
+    trail: LISTING_TRAIL,
+    arguments: 12,
+};
+
 const _: () = assert!(LARGE.stack < MOST_STACK && LARGE.heap < MOST_HEAP);
 
 pub fn draw(random: &mut Random) -> Sizes {
@@ -51,4 +60,12 @@ pub fn draw(random: &mut Random) -> Sizes {
         975..=995 => WIDE,
         _ => LARGE,
     }
+}
+
+/// Sizes that the listing program takes. `large` of a hundred may have as much as it takes at all.
+pub fn draw_listed(random: &mut Random, large: usize) -> Sizes {
+    if random.percent(large) {
+        return random.one_of(&[LISTED, LISTED, WIDE]);
+    }
+    random.one_of(&[TINY, SMALL, SMALL])
 }

@@ -1,0 +1,128 @@
+-- `listing::numbers::reason_of` meets its contract: number and place of each refusal, by the cases.
+-- Assumes nothing.
+use Rattle.machine.specs.Answers.{verdictOf}
+use borrow.Author.Needs.{needs}
+use Rattle.listing.proofs.numbers.reason_of.Statement.{statement}
+use Rattle.listing.proofs.numbers.reason_of.Tie as tie
+
+enum-told : tie.Need-enum-told
+enum-told c = search needs
+
+alone-requires : tie.Need-alone-requires
+alone-requires c κs = search needs
+
+enum-told-2 : tie.Need-enum-told-2
+enum-told-2 c = search needs
+
+alone-requires-2 : tie.Need-alone-requires-2
+alone-requires-2 c κs = search needs
+
+enum-told-3 : tie.Need-enum-told-3
+enum-told-3 c = search needs
+
+alone-requires-3 : tie.Need-alone-requires-3
+alone-requires-3 c κs = search needs
+
+enum-told-4 : tie.Need-enum-told-4
+enum-told-4 c = search needs
+
+alone-requires-4 : tie.Need-alone-requires-4
+alone-requires-4 c κs = search needs
+
+enum-known-refusal : tie.Need-enum-known-refusal
+enum-known-refusal c = search needs
+
+placed-requires : tie.Need-placed-requires
+placed-requires c κs = search needs
+
+enum-known-refusal-2 : tie.Need-enum-known-refusal-2
+enum-known-refusal-2 c = search needs
+
+placed-requires-2 : tie.Need-placed-requires-2
+placed-requires-2 c κs = search needs
+
+enum-known-refusal-3 : tie.Need-enum-known-refusal-3
+enum-known-refusal-3 c = search needs
+
+placed-requires-3 : tie.Need-placed-requires-3
+placed-requires-3 c κs = search needs
+
+enum-told-5 : tie.Need-enum-told-5
+enum-told-5 c = search needs
+
+alone-requires-5 : tie.Need-alone-requires-5
+alone-requires-5 c κs = search needs
+
+enum-told-6 : tie.Need-enum-told-6
+enum-told-6 c = search needs
+
+alone-requires-6 : tie.Need-alone-requires-6
+alone-requires-6 c κs = search needs
+
+returns : tie.Need-returns
+unfolding verdictOf
+returns c = rw (c .before .enum-told .given .1) (c .alone .ensures)
+
+returns-2 : tie.Need-returns-2
+unfolding verdictOf
+returns-2 c = rw (c .before .enum-told2 .given .1) (c .alone2 .ensures)
+
+returns-3 : tie.Need-returns-3
+unfolding verdictOf
+returns-3 c = rw (c .before .enum-told3 .given .1) (c .alone3 .ensures)
+
+returns-4 : tie.Need-returns-4
+unfolding verdictOf
+returns-4 c = rw (c .before .enum-told4 .given .1) (c .alone4 .ensures)
+
+returns-5 : tie.Need-returns-5
+unfolding verdictOf
+returns-5 c = rw (c .before .before .refusal .given .1) (c .placed .ensures)
+
+returns-6 : tie.Need-returns-6
+unfolding verdictOf
+returns-6 c = rw (c .before .before .refusal2 .given .1) (c .placed2 .ensures)
+
+returns-7 : tie.Need-returns-7
+unfolding verdictOf
+returns-7 c = rw (c .before .before .refusal3 .given .1) (c .placed3 .ensures)
+
+returns-8 : tie.Need-returns-8
+unfolding verdictOf
+returns-8 c = rw (c .before .enum-told5 .given .1) (c .alone5 .ensures)
+
+returns-9 : tie.Need-returns-9
+unfolding verdictOf
+returns-9 c = rw (c .before .enum-told6 .given .1) (c .alone6 .ensures)
+
+pub reason-of-spec : {M : Type 1} → statement M
+reason-of-spec =
+    tie.close
+    (tie.spec
+    enum-told
+    alone-requires
+    enum-told-2
+    alone-requires-2
+    enum-told-3
+    alone-requires-3
+    enum-told-4
+    alone-requires-4
+    enum-known-refusal
+    placed-requires
+    enum-known-refusal-2
+    placed-requires-2
+    enum-known-refusal-3
+    placed-requires-3
+    enum-told-5
+    alone-requires-5
+    enum-told-6
+    alone-requires-6
+    returns
+    returns-2
+    returns-3
+    returns-4
+    returns-5
+    returns-6
+    returns-7
+    returns-8
+    returns-9)

@@ -1,0 +1,12 @@
+pub mod Numberings
+pub mod Months
+pub mod Firsts
+pub mod Fronts
+pub mod Countings
+pub mod Offsets
+pub mod Stepping
+pub mod Learnt
+pub mod Streams
+pub mod OneReport
+pub mod Sums
+pub mod Examples

@@ -1,0 +1,13 @@
+pub mod Chains
+pub mod Memos
+pub mod Points
+pub mod Tagged
+pub mod Walking
+pub mod Keeping
+pub mod Figuring
+pub mod Imaging
+pub mod Filing
+pub mod Totals
+pub mod Within
+pub mod OneCount
+pub mod Examples
