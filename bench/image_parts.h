@@ -33,6 +33,9 @@ uint32_t push_frame(areas *to, uint32_t size);
 uint32_t push_choice_point(areas *to, uint32_t arguments, uint32_t entries,
                            uint32_t cells);
 
+/* Moves each trail entry on a functor's cell to the first argument. */
+void leave_functors(areas *to);
+
 /* The start of the kinds whose burden is the heap: frames with choice points
    between them, and a trail that names cells at random. */
 void start_plain(areas *to, size_t cells);

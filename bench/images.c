@@ -1,6 +1,8 @@
 /* The table of kinds, and what their makers share. */
 #include "images.h"
 
+#include <stdlib.h>
+
 #include "image_parts.h"
 
 const kind kinds[] = {
@@ -14,7 +16,7 @@ const kind kinds[] = {
     {"list, zigzag", list_zigzag},
     {"list, shuffled", list_shuffled},
     {"one wide structure", wide_structure},
-    {"overlapping structures", overlapping},
+    {"wide structures", wide_structures},
     {"shared chain of frames", shared_frames},
     {"full trail", full_trail},
 };
@@ -112,4 +114,27 @@ void start_plain(areas *to, size_t cells)
     const uint32_t argument = STACK_BASE + (uint32_t)to->stack_len - 1;
     for (size_t i = 0; i < to->trail_len; i++)
         to->trail[i] = chance(8) ? chance((uint32_t)cells) : argument;
+}
+
+static void note_first(uint32_t word, uint8_t *first)
+{
+    if (tag_of(word) == STRUCT)
+        first[value_of(word)] = 1;
+}
+
+/* Of the stack's cells only those of the newest frame hold structures. */
+void leave_functors(areas *to)
+{
+    const uint32_t *frame = to->stack + to->control[E] + FRAME_FIXED;
+    uint8_t *first = calloc(to->heap_len, 1);
+    if (!first)
+        abort();
+    for (size_t i = 0; i < to->heap_len; i++)
+        note_first(to->heap[i], first);
+    for (uint32_t i = 0; i < to->control[L]; i++)
+        note_first(frame[i], first);
+    for (size_t i = 0; i < to->trail_len; i++)
+        if (to->trail[i] < STACK_BASE && first[to->trail[i]])
+            to->trail[i]++;
+    free(first);
 }

@@ -41,7 +41,7 @@ void list_falling(areas *to, size_t size);
 void list_zigzag(areas *to, size_t size);
 void list_shuffled(areas *to, size_t size);
 void wide_structure(areas *to, size_t size);
-void overlapping(areas *to, size_t size);
+void wide_structures(areas *to, size_t size);
 void shared_frames(areas *to, size_t size);
 void full_trail(areas *to, size_t size);
 

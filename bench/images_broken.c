@@ -51,11 +51,22 @@ static void spoil_trail(areas *to)
     to->trail[to->control[T] - 1] = to->control[H];
 }
 
+/* The last trail entry names a functor's cell. The structure is its own only
+   argument, in the last cell. */
+static void spoil_functor(areas *to)
+{
+    const uint32_t first = to->control[H] - 2;
+    to->heap[first] = cell(ARITY_END + 1, CONST);
+    to->heap[first + 1] = cell(first, STRUCT);
+    to->trail[to->control[T] - 1] = first;
+}
+
 const damage damages[] = {
     {"broken chain at the far end", 3, spoil_chain},
     {"two roles at the far end", 4, spoil_roles},
     {"bit m in the last cell", 5, spoil_bits},
     {"wrong reference in the last cell", 6, spoil_reference},
     {"wrong last trail entry", 7, spoil_trail},
+    {"last trail entry on a functor", 17, spoil_functor},
 };
 const size_t damage_count = sizeof damages / sizeof *damages;

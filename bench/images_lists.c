@@ -50,36 +50,28 @@ void list_falling(areas *to, size_t size) { make_list(to, size, falling, 0); }
 void list_zigzag(areas *to, size_t size) { make_list(to, size, zigzag, 0); }
 void list_shuffled(areas *to, size_t size) { make_list(to, size, rising, 1); }
 
-/* A structure of arity 255 at 0, and a list over the rest of the heap whose
-   every element is that structure. A VAR marks the functor's cell first. */
-void wide_structure(areas *to, size_t size)
+/* Structures of arity 255 from 0 on, and a list over the rest of the heap whose
+   elements are these structures by turns, shuffled. */
+static void make_wide(areas *to, size_t size, size_t structures)
 {
-    const uint32_t first = 1 + MOST_ARITY;
+    const size_t each = 1 + MOST_ARITY, first = each * structures;
     const size_t count = (size - first) / 2;
     start_plain(to, size);
-    to->control[N] = 2;
-    to->control_len = FIXED + 2;
-    to->control[FIXED] = cell(0, VAR);
-    to->heap[0] = functor(1, MOST_ARITY);
-    uint32_t *pairs = pairs_from(first, count, rising);
-    link_pairs(to, pairs, count, FIXED + 1);
-    for (size_t i = 0; i < count; i++)
-        to->heap[pairs[i]] = cell(0, STRUCT);
-    free(pairs);
-}
-
-/* Half of the heap is functors of arity 255, each an argument of the 255
-   before it; a list over the other half names every second one, shuffled. */
-void overlapping(areas *to, size_t size)
-{
-    const size_t first = size / 2, count = (size - first) / 2;
-    start_plain(to, size);
-    for (size_t i = 0; i < first; i++)
-        to->heap[i] = functor(1, MOST_ARITY);
+    for (size_t i = 0; i < structures; i++)
+        to->heap[each * i] = functor(1, MOST_ARITY);
     uint32_t *pairs = pairs_from(first, count, rising);
     link_pairs(to, pairs, count, FIXED);
     shuffle(pairs, count);
     for (size_t i = 0; i < count; i++)
-        to->heap[pairs[i]] = cell((uint32_t)(2 * i), STRUCT);
+        to->heap[pairs[i]] = cell((uint32_t)(each * (i % structures)), STRUCT);
     free(pairs);
+    leave_functors(to);
+}
+
+void wide_structure(areas *to, size_t size) { make_wide(to, size, 1); }
+
+/* They take half of the heap. */
+void wide_structures(areas *to, size_t size)
+{
+    make_wide(to, size, size / 2 / (1 + MOST_ARITY));
 }

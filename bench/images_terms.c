@@ -121,6 +121,7 @@ static void make_terms(areas *to, size_t size, uint32_t live_percent,
     fill_rest(to, &live);
     fill_rest(to, &dead);
     free(room);
+    leave_functors(to);
 }
 
 enum { NEAR = 4, ANYWHERE = HEAP_MOST };

@@ -4,6 +4,7 @@
 #include <string.h>
 
 #include "peer_check.h"
+#include "peer_functor.h"
 #include "peer_image.h"
 #include "peer_mark.h"
 #include "peer_roles.h"
@@ -35,8 +36,9 @@ static void clear_work(const image *m)
     clear(m->work, m->heap_len + m->stack_len);
 }
 
-/* Refusals 1 to 7 in their order. The work words hold anything at entry; they
-   are cleared for the roles, and from 2 on a refusal clears them again. */
+/* Refusals 1 to 7 and 17 in their order. The work words hold anything at entry;
+   they are cleared for the roles, and from 2 on a refusal clears them again. A
+   sound image leaves only the roles in them. */
 static verdict admit(image *m)
 {
     if (bad_sizes(m))
@@ -54,8 +56,12 @@ static verdict admit(image *m)
         found = check_cells(m);
     if (!found.refusal)
         found = check_trail(m);
+    if (!found.refusal)
+        found = check_functors(m);
     if (found.refusal)
         clear_work(m);
+    else
+        clear(m->work, m->control[H]);
     return found;
 }
 
@@ -67,7 +73,7 @@ peer_collected peer_collect(uint32_t *control, size_t control_len,
 {
     image m = {control,     stack,     heap,     trail,     work,
                control_len, stack_len, heap_len, trail_len, work_len,
-               NULL,        NONE,      0};
+               NULL,        NONE,      0,        0};
     const verdict found = admit(&m);
     if (found.refusal)
         return (peer_collected){.refusal = found.refusal,
@@ -111,7 +117,7 @@ peer_stepped peer_step_back(uint32_t *control, size_t control_len,
 {
     image m = {control,     stack,     heap,     trail,     work,
                control_len, stack_len, heap_len, trail_len, work_len,
-               NULL,        NONE,      0};
+               NULL,        NONE,      0,        0};
     const verdict found = admit(&m);
     if (found.refusal)
         return (peer_stepped){found.refusal, found.area, found.index, 0};

@@ -7,7 +7,8 @@
 #include <stddef.h>
 #include <stdint.h>
 
-/* Where a refused image has its fault. Only refusals 5, 6 and 7 name one. */
+/* Where a refused image has its fault. Only refusals 5, 6, 7
+   and 17 name one. */
 enum peer_area {
     PEER_NOWHERE = 0,
     PEER_HEAP = 1,

@@ -6,6 +6,7 @@
 #include "peer.h"
 
 /* A work word of a heap cell, work[index].
+   While checking: how many first cells of structures stand below.
    While marking: KEPT and the next pending cell (LINK, index + 1, 0 for none).
    After it: KEPT and d(index). */
 #define KEPT 2147483648u
@@ -26,6 +27,7 @@ typedef struct {
     uint32_t *roles;   /* the work words of the stack */
     uint32_t oldest;   /* the last choice point of the chain, or NONE */
     uint32_t conflict; /* not 0: some stack word has two roles */
+    uint32_t functors; /* how many first cells of structures there are */
 } image;
 
 typedef struct {

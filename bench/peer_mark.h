@@ -17,8 +17,7 @@ static inline uint32_t mark_cell(const uint32_t *heap, uint32_t *work,
     return tag_of(heap[i]) == CONST ? top : i + 1;
 }
 
-/* Marks a structure's cells, from i to end. A functor may be marked by a VAR
-   alone, so every cell is looked at. */
+/* Marks a structure's cells, from i to end. */
 static inline uint32_t mark_structure(const uint32_t *heap, uint32_t *work,
                                       uint32_t i, uint32_t end, uint32_t top)
 {

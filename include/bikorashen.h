@@ -102,6 +102,10 @@
  *    7  collect, step back  a trail entry below T is no heap index below H and
  *                           no word inside the stack, or is a field
  *                                                                  (has a place)
+ *   17  collect, step back  a cell or a trail entry refers to a functor's cell:
+ *                           the first cell of any STRUCT's target is named by a
+ *                           VAR or a trail entry, is one of a LIST's two cells,
+ *                           or is an argument of a STRUCT         (has a place)
  *    8  step back           B is BIK_NONE
  *    9  step back           the choice point's 7 + n is above the control area's
  *                           length
@@ -117,9 +121,10 @@
  *                           words, or fewer than 7 control words    (offset 0)
  *   15  freeze              the output is shorter than the file
  *
- * For 5 and 6 heap, stack and control are tried in this order, and the lowest
- * index is given; all cells of the heap below H count, also those that nothing
- * reaches. A control cell's index is its index in the control area.
+ * For 5, 6 and 17 heap, stack and control are tried in this order, for 17 then
+ * the trail, and the lowest index is given; all cells of the heap below H count,
+ * also those that nothing reaches. A control cell's index is its index in the
+ * control area. For 17 the place is that of the cell that refers.
  */
 #ifndef BIKORASHEN_H
 #define BIKORASHEN_H
@@ -150,8 +155,8 @@ enum {
 
 /* What a collection answers. */
 typedef struct {
-    uint32_t refusal;         /* 0: collected; else 1 to 7 of the table */
-    uint32_t area;            /* of the place, for 5, 6 and 7; else 0 */
+    uint32_t refusal;         /* 0: collected; else 1 to 7 or 17 */
+    uint32_t area;            /* of the place, for 5, 6, 7 and 17; else 0 */
     uint64_t index;           /* of the place, in that area; else 0 */
     uint64_t cells_kept;      /* heap cells below the old H that stay: the new H */
     uint64_t cells_dropped;   /* heap cells below the old H that go */
@@ -176,8 +181,8 @@ bik_collected bik_collect(uint32_t *control, size_t control_len,
 
 /* What a step back answers. */
 typedef struct {
-    uint32_t refusal; /* 0: stepped back; else 1 to 9 of the table */
-    uint32_t area;    /* of the place, for 5, 6 and 7; else 0 */
+    uint32_t refusal; /* 0: stepped back; else 1 to 9 or 17 */
+    uint32_t area;    /* of the place, for 5, 6, 7 and 17; else 0 */
     uint64_t index;   /* of the place, in that area; else 0 */
     uint64_t undone;  /* trail entries undone, equal ones counted each */
 } bik_stepped;

@@ -53,11 +53,13 @@ add('shared_frames', *(name for name in SHOWN if name.startswith('shared_frame')
 
 # refused images
 REFUSED = ['frame_its_own_parent', 'two_frames_overlap', 'bit_in_heap', 'bit_in_stack_frame', 'bit_in_control', 'reference_in_heap', 'reference_in_stack',
-           'reference_in_control', 'entry_at_h']
+           'reference_in_control', 'entry_at_h', 'functor_named_by_var_in_heap', 'functor_named_by_list_from_in_stack', 'functor_named_by_struct_in_control',
+           'functor_named_by_entry']
 add('refused_each', *REFUSED)
 add('refused_between', 'entry_at_h', night_a, 'reference_in_heap', 'reference_in_stack', night_a, 'bit_in_control', 'frame_its_own_parent', 'night_a_collected',
     'two_frames_overlap', 'nothing_in_it', 'choice_point_t_above')
 add('refused_last', night_a, 'night_a_entry_9')
+add('refused_17', night_a, 'structures_overlap', 'functor_not_named', 'functor_named_of_a_dead_struct')
 
 # files that end early
 add('cut_first', night_a[:50])

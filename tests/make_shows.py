@@ -126,6 +126,22 @@ add('entry_on_a_frame_field', tiny([], [], stack=[0, NONE, k(1)], e=0, size=1, t
 add('entry_past_the_counted_stack', tiny([], [], stack=[5, 6], trail=[BASE + 1, BASE + 2]))
 add('entry_on_a_word_without_role', tiny([], [], stack=[5, 6], trail=[BASE, BASE + 1]))
 
+# refusal 17: f5/1 at 2 is what the STRUCT in the dead cell 5 refers to, f6/2 at 0 only looks like a functor
+NAMED = [functor(6, 2), k(1), functor(5, 1), k(2), k(3), st(2)]
+for name, word in (('var', v(2)), ('list_from', li(2)), ('list_before', li(1)), ('struct', st(0))):
+    add('functor_named_by_%s_in_heap' % name, tiny([], NAMED[:4] + [word] + NAMED[5:]))
+    add('functor_named_by_%s_in_stack' % name, tiny([], NAMED, stack=[0, NONE, word], e=0, size=1))
+    add('functor_named_by_%s_in_control' % name, tiny([k(1), word], NAMED))
+add('functor_named_by_entry', tiny([], NAMED, trail=[1, 2]))
+add('functor_named_by_entry_after_entry_at_h', tiny([], NAMED, trail=[2, 6]))
+add('functor_named_of_no_struct', tiny([v(0), li(0)], NAMED, trail=[0]))
+add('functor_named_of_a_dead_struct', tiny([], [functor(5, 1), k(1), st(0), v(0)]))
+add('functor_named_of_words_without_role', tiny([v(0)], [functor(5, 1), k(1)], stack=[st(0)]))
+add('functor_not_named', tiny([v(1), v(3), li(3), st(2), st(2)], NAMED, trail=[1, 3]))
+add('structures_overlap', tiny([st(0), st(1)], [functor(5, 2), functor(6, 1), k(1)]))
+add('structures_side_by_side', tiny([st(0), st(2)], [functor(5, 1), k(1), functor(6, 1), k(2)]))
+add('structure_in_itself', tiny([st(0)], [functor(5, 1), st(0)]))
+
 # file faults
 add('cut_in_the_counts', night_a[:16])
 add('cut_after_the_counts', night_a[:17])

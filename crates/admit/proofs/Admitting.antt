@@ -1,10 +1,10 @@
 -- The parts of `admit` together give the table's verdict: each check that passes is skipped, and the first that does not is the answer.
 -- Assumes nothing.
 use Prim.Native.Nat.{ℕ, _+_, _≤_, _<_}
-use mathlib.Core.Path.{_≡_, refl, sym, ap, _∙_}
+use mathlib.Core.Path.{_≡_, refl, sym, ap, subst, _∙_}
 use mathlib.Core.Logic.{_≢_, ⊎-elim}
 use mathlib.Core.Bool.{true, false}
-use mathlib.Core.List.{List, [], _∷_, _++_}
+use mathlib.Core.List.{List, _∷_, _++_}
 use native.Mathlib.Omega.{arith}
 use borrow.Author.Tests.{eq-eqb, eqb-true, ltb-true, lt-ltb}
 use lib.ListN.{length, getD, drop, replicate, length-replicate, getD-replicate, List·getD-append}
@@ -14,13 +14,13 @@ use Rattle.machine.specs.declared.Refusal.the-variants.{Sizes, Registers, Chain
 use Rattle.machine.specs.Layout.{Image}
 use Rattle.machine.specs.Chains.{Fault, whole, broken, walk, faultOf}
 use Rattle.machine.specs.Roles.{Role, cell, CL, CE, own, codeOf, isCell, isField, conflict, noteAt}
-use Rattle.machine.specs.Refusals.{Verdict, refused, nowhere, scan, orElse, firstOf, workWords, enough, fits, chainCheck, cellChecks, entryChecks, imageChecks, verdict}
+use Rattle.machine.specs.Refusals.{refused, nowhere, scan, firstOf, workWords, enough, fits, chainCheck, cellChecks, entryChecks, firstChecks, imageChecks, verdict}
 use Rattle.machine.specs.Answers.{verdictOf, workAfter}
 use Rattle.machine.proofs.Tests.{same-bool}
 use Rattle.machine.proofs.Chains.{role-low}
 use Rattle.machine.proofs.Walks.{whole-linked}
 use Rattle.machine.proofs.Roles.{has-is, is-has, field-iff}
-use Rattle.machine.proofs.Firsts.{first-skips, passes-gate, refuses-gate, refused-not, scan-any, scan-passes, else-passes, else-refuses, else-assoc, first-given}
+use Rattle.machine.proofs.Firsts.{first-skips, passes-gate, refuses-gate, refused-not, scan-any, scan-passes, first-given}
 use Rattle.machine.proofs.Checks.{enough-iff, fits-iff}
 use Rattle.machine.proofs.Injective.{refusal-refuses}
 use Rattle.machine.proofs.Works.{clearedTo, uses-all, lent-cleared}
@@ -30,23 +30,7 @@ use Rattle.chains.proofs.Conflicts.{noted-of-walk, conflict-of-walk, apart-of-w
 use Rattle.cells.specs.declared.Checked.{Checked}
 use Rattle.cells.specs.declared.Checked.the-variants.{Passed, Refused}
 use Rattle.cells.specs.Cells.{checkedTo, notesCell, notesField, Right}
-use Rattle.admit.specs.Admits.{Admits, Blanked, WordsNoted, ChecksWords, ChecksImage, lengthsPass}
-
--- ---- verdicts one after the other
-
-pub cells-then : (X : Image) (later : List Verdict) → firstOf (cellChecks X later) ≡ orElse (firstOf (cellChecks X [])) (firstOf later)
-unfolding firstOf orElse
-cells-then X later = sym (simp else-assoc)
-
--- ---- words
-
-pub words-refused : {X : Image} {r : Refusal} → checkedTo (Refused r) ≡ firstOf (cellChecks X []) → ChecksWords X (Refused r)
-unfolding checkedTo
-words-refused {X} {r} e = record { gives = e ∙ sym (else-refuses _ _ (λ q. refusal-refuses r (e ∙ q))) ∙ sym (cells-then X (entryChecks X)) }
-
-pub words-passed : {X : Image} {r : Checked} → checkedTo Passed ≡ firstOf (cellChecks X []) → checkedTo r ≡ firstOf (entryChecks X) → ChecksWords X r
-unfolding checkedTo
-words-passed {X} {r} e f = record { gives = f ∙ sym (else-passes _ _ (sym e)) ∙ sym (cells-then X (entryChecks X)) }
+use Rattle.admit.specs.Admits.{Admits, Blanked, WordsNoted, ChecksNoted, ChecksImage, lengthsPass}
 
 -- ---- the notes are right
 
@@ -94,7 +78,7 @@ module _ (X : Image) (work : List ℕ) where
   registers-stop f = stopped Registers (sym (first-given _ _ (refuses-gate _ _ f))) refl refl
 
   module _ (f : fits X ≡ true) (work′ : List ℕ) where
-    registers-pass : firstOf (imageChecks X) ≡ firstOf (chainCheck (faultOf X (walk X)) ∷ scan (conflict X) (length (X .stack)) (λ i. refused 4 nowhere) ∷ cellChecks X (entryChecks X))
+    registers-pass : firstOf (imageChecks X) ≡ firstOf (chainCheck (faultOf X (walk X)) ∷ scan (conflict X) (length (X .stack)) (λ i. refused 4 nowhere) ∷ cellChecks X (entryChecks X (firstChecks X)))
     registers-pass = first-skips _ _ (passes-gate _ _ f)
 
     not-whole : (g : Fault) → g ≢ whole → chainCheck g ≡ refused 3 nowhere
@@ -107,7 +91,7 @@ module _ (X : Image) (work : List ℕ) where
         stopped Chain (sym (registers-pass ∙ first-given _ _ (not-whole (faultOf X (walk X)) (w .broken refl)))) (w .after) (w .same)
 
     module _ (w : Walks X work (length (X .heap)) true work′) where
-      chain-pass : firstOf (imageChecks X) ≡ firstOf (scan (conflict X) (length (X .stack)) (λ i. refused 4 nowhere) ∷ cellChecks X (entryChecks X))
+      chain-pass : firstOf (imageChecks X) ≡ firstOf (scan (conflict X) (length (X .stack)) (λ i. refused 4 nowhere) ∷ cellChecks X (entryChecks X (firstChecks X)))
       chain-pass = registers-pass ∙ first-skips _ _ (ap chainCheck (w .noted refl .0))
 
       pub roles-stop : (i : ℕ) → i < length (X .stack) → several ≤ noteAt work′ (length (X .heap)) i → ChecksImage X work (Refused Roles) work′
@@ -120,24 +104,26 @@ module _ (X : Image) (work : List ℕ) where
         pub noted : Noted X work′ (length (X .heap))
         noted = noted-of-walk X work′ (length (X .heap)) (w .noted refl) few
 
+        front : Blanked X work → (x : ℕ) → x < length (X .heap) → getD work′ x 0 ≡ 0
+        front b x l = front-at (length (X .heap)) work′ work (w .before) x l ∙ b .blank x (omega arith)
+
         pub words-noted : Blanked X work → WordsNoted X work′
         words-noted b = record {
           sizes = b .sizes;
           fits = fits-iff X .0 f;
           room = omega (arith, b .room, w .same);
+          blank = front b;
           right = notes-right (w .noted refl .0) noted (omega (arith, b .room, w .same));
         }
 
-        front : Blanked X work → (x : ℕ) → x < length (X .heap) → getD work′ x 0 ≡ 0
-        front b x l = front-at (length (X .heap)) work′ work (w .before) x l ∙ b .blank x (omega arith)
-
-        pub words-checked : {r : Checked} → Blanked X work → ChecksWords X r → ChecksImage X work r work′
-        words-checked b c = record {
-          gives = c .gives ∙ sym (chain-pass ∙ first-skips _ _ (scan-passes (conflict X) (length (X .stack)) (λ i. refused 4 nowhere) (apart-of-walk X work′ (length (X .heap)) (w .noted refl) few)));
-          passed = λ q. record { blank = front b; noted = noted; rest = w .after; same = w .same };
-          rest = w .after;
-          same = w .same;
-        }
+        pub noted-checked : {r : Checked} {work″ : List ℕ} → Blanked X work → ChecksNoted X work′ r work″ → ChecksImage X work r work″
+        noted-checked {r} b c =
+            subst (ChecksImage X work r) (sym (c .stays)) (record {
+              gives = c .gives ∙ sym (chain-pass ∙ first-skips _ _ (scan-passes (conflict X) (length (X .stack)) (λ i. refused 4 nowhere) (apart-of-walk X work′ (length (X .heap)) (w .noted refl) few)));
+              passed = λ q. record { blank = front b; noted = noted; rest = w .after; same = w .same };
+              rest = w .after;
+              same = w .same;
+            })
 
 -- ---- the whole
 

@@ -4,11 +4,11 @@ use Prim.Native.Nat.{ℕ, _+_, _≤_, _<_}
 use mathlib.Core.Path.{_≡_}
 use mathlib.Core.Logic.{_≢_}
 use mathlib.Core.Bool.{Bool, _&&_}
-use mathlib.Core.List.{List}
+use mathlib.Core.List.{List, []}
 use lib.ListN.{length, getD, drop}
 use lib.Dec.{leb}
 use Rattle.machine.specs.Layout.{Image, fixed, heapMost, stackMost, trailMost, argumentsMost}
-use Rattle.machine.specs.Refusals.{accepted, workWords, firstOf, cellChecks, entryChecks, imageChecks, verdict}
+use Rattle.machine.specs.Refusals.{accepted, workWords, firstOf, cellChecks, entryChecks, firstChecks, imageChecks, verdict}
 use Rattle.machine.specs.Answers.{workAfter}
 use Rattle.machine.proofs.Accepted.{Sizes, Fits}
 use Rattle.chains.specs.Notes.{Noted}
@@ -40,15 +40,20 @@ pub record Blanked (X : Image) (work : List ℕ) : Type 0 where
   pub room : workWords X ≤ length work
   pub blank : (j : ℕ) → j < workWords X → getD work j 0 ≡ 0
 
--- an image whose stack words are noted
+-- an image whose stack words are noted; the work words of the heap are 0
 pub record WordsNoted (X : Image) (work : List ℕ) : Type 0 where
   pub sizes : Sizes X
   pub fits : Fits X
   pub room : workWords X ≤ length work
+  pub blank : (x : ℕ) → x < length (X .heap) → getD work x 0 ≡ 0
   pub right : Right X work (length (X .heap))
 
 pub record ChecksWords (X : Image) (r : Checked) : Type 0 where
-  pub gives : checkedTo r ≡ firstOf (cellChecks X (entryChecks X))
+  pub gives : checkedTo r ≡ firstOf (cellChecks X (entryChecks X []))
+
+pub record ChecksNoted (X : Image) (work : List ℕ) (r : Checked) (work′ : List ℕ) : Type 0 where
+  pub gives : checkedTo r ≡ firstOf (cellChecks X (entryChecks X (firstChecks X)))
+  pub stays : work′ ≡ work
 
 pub record ChecksImage (X : Image) (work : List ℕ) (r : Checked) (work′ : List ℕ) : Type 0 where
   pub gives : checkedTo r ≡ firstOf (imageChecks X)

@@ -1,4 +1,4 @@
-// The table of refusals 1 to 7, lowest number first. What passes leaves its notes in the work words.
+// The table of refusals 1 to 7 and 17, in the order of checks. What passes leaves its notes in the work words.
 use cells::Checked;
 use machine::ARGUMENTS_MOST;
 use machine::FIXED;
@@ -14,7 +14,7 @@ ghost use Prim.Native.Nat.{_≤_};
 ghost use lib.ListN.{length};
 ghost use Rattle.machine.specs.Layout.{Image, fixed};
 ghost use Rattle.machine.specs.Refusals.{fits};
-ghost use Rattle.admit.specs.Admits.{Admits, lengthsPass, Blanked, ChecksWords, ChecksImage, WordsNoted};
+ghost use Rattle.admit.specs.Admits.{Admits, lengthsPass, Blanked, ChecksWords, ChecksNoted, ChecksImage, WordsNoted};
 
 // Refusal 1 does not apply to areas of these lengths.
 fn sizes_enough(control: usize, stack: usize, heap: usize, trail: usize, work: usize) -> bool
@@ -64,7 +64,25 @@ fn check_words(control: &[u32], stack: &[u32], heap: &[u32], trail: &[u32], work
     }
 }
 
-// Refusals 2 to 7, of an image of legal size; the work words are blank.
+// Refusals 5 to 7 and 17, of an image whose stack words are noted.
+fn check_noted(
+    control: &[u32],
+    stack: &[u32],
+    heap: &[u32],
+    trail: &[u32],
+    work: &mut [u32],
+) -> Checked
+    requires { ⌜ WordsNoted (record { control = now control; stack = now stack; heap = now heap; trail = now trail }) (now work) ⌝ }
+    ensures { λ r. ⌜ ChecksNoted (record { control = now (control .entry); stack = now (stack .entry); heap = now (heap .entry); trail = now (trail .entry) }) (now (work .entry)) r (now (work .exit)) ⌝ }
+{
+    let checked = check_words(control, stack, heap, trail, work);
+    match checked {
+        Checked::Refused(refusal) => Checked::Refused(refusal),
+        Checked::Passed => functors::check_first(control, stack, heap, trail, work, heap.len()),
+    }
+}
+
+// Refusals 2 to 7 and 17, of an image of legal size; the work words are blank.
 fn check_image(
     control: &[u32],
     stack: &[u32],
@@ -85,7 +103,7 @@ fn check_image(
     if !chains::apart(work, notes, stack.len()) {
         return Checked::Refused(Refusal::Roles);
     }
-    check_words(control, stack, heap, trail, work)
+    check_noted(control, stack, heap, trail, work)
 }
 
 // The collector's verdict on an image.

@@ -80,9 +80,9 @@ module _ (X : Image) {work : List ℕ} {notes : ℕ} (r : Right X work notes) wh
       (ap firstOf cells-here ∙ areas-then 5 _ _ _ _ _ _ _)
 
   -- 7: the verdict of the scan of the entries
-  pub entries-bridge : (control trail : List ℕ) (count : ℕ) → X .control ≡ control → X .trail ≡ trail → length (X .stack) ≡ count → firstOf (entryChecks X) ≡ firstOf (scan (wrongEntry (field control 0 H) count work notes trail) (field control 0 T) (λ i. refused 7 (inArea Trail i)) ∷ [])
+  pub entries-bridge : (control trail : List ℕ) (count : ℕ) → X .control ≡ control → X .trail ≡ trail → length (X .stack) ≡ count → firstOf (entryChecks X []) ≡ firstOf (scan (wrongEntry (field control 0 H) count work notes trail) (field control 0 T) (λ i. refused 7 (inArea Trail i)) ∷ [])
   entries-bridge control trail count a b c =
       subst₃
-      (λ (control trail : List ℕ) (count : ℕ). firstOf (entryChecks X) ≡ firstOf (scan (wrongEntry (field control 0 H) count work notes trail) (field control 0 T) (λ i. refused 7 (inArea Trail i)) ∷ []))
+      (λ (control trail : List ℕ) (count : ℕ). firstOf (entryChecks X []) ≡ firstOf (scan (wrongEntry (field control 0 H) count work notes trail) (field control 0 T) (λ i. refused 7 (inArea Trail i)) ∷ []))
       a b c
       (ap (λ (v : Verdict). firstOf (v ∷ [])) (scan-same (badEntry X) _ _ _ (λ i l. wrong-entry-same i)))

@@ -57,7 +57,7 @@ pub fn check_entries(
     notes: usize,
 ) -> Checked
     requires { ⌜ EntriesSized (now control) (now trail) count (now work) notes ⌝ }
-    ensures { λ r. ⌜ ((X : Image) → X .control ≡ now (control .entry) → length (X .stack) ≡ count → X .trail ≡ now (trail .entry) → Right X (now (work .entry)) notes → checkedTo r ≡ firstOf (entryChecks X)) ⌝ }
+    ensures { λ r. ⌜ ((X : Image) → X .control ≡ now (control .entry) → length (X .stack) ≡ count → X .trail ≡ now (trail .entry) → Right X (now (work .entry)) notes → checkedTo r ≡ firstOf (entryChecks X [])) ⌝ }
 {
     let h = control[H];
     let t = control[T] as usize;

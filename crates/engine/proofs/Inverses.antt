@@ -5,7 +5,7 @@ use mathlib.Core.Path.{_≡_, refl, sym, ap, _∙_}
 use Rattle.machine.specs.declared.Area.{Area}
 use Rattle.machine.specs.declared.Area.the-variants.{Heap, Stack, Control, Trail}
 use Rattle.machine.specs.declared.Refusal.{Refusal}
-use Rattle.machine.specs.declared.Refusal.the-variants.{Sizes, Registers, Chain, Roles, Bits, Reference, Entry, NoChoicePoint, ControlShort}
+use Rattle.machine.specs.declared.Refusal.the-variants.{Sizes, Registers, Chain, Roles, Bits, Reference, Entry, First, NoChoicePoint, ControlShort}
 use Rattle.machine.specs.declared.Collected.{Collected}
 use Rattle.machine.specs.declared.Collected.the-variants as collected
 use Rattle.machine.specs.declared.Stepped.{Stepped}
@@ -48,6 +48,7 @@ verdict-inverse Roles = refl
 verdict-inverse (Bits p) = placed-inverse 4 (p .area) (p .index)
 verdict-inverse (Reference p) = placed-inverse 5 (p .area) (p .index)
 verdict-inverse (Entry p) = placed-inverse 6 (p .area) (p .index)
+verdict-inverse (First p) = placed-inverse 16 (p .area) (p .index)
 verdict-inverse NoChoicePoint = refl
 verdict-inverse ControlShort = refl
 

@@ -77,6 +77,7 @@ pub fn reason_of(refusal: Refusal) -> Reason
         Refusal::Bits(place) => placed(5, place),
         Refusal::Reference(place) => placed(6, place),
         Refusal::Entry(place) => placed(7, place),
+        Refusal::First(place) => placed(17, place),
         Refusal::NoChoicePoint => placeless(8),
         Refusal::ControlShort => placeless(9),
     }

@@ -10,7 +10,7 @@ use Rattle.machine.specs.declared.Counts.{Counts}
 use Rattle.machine.specs.declared.Refusal.{Refusal}
 use Rattle.machine.specs.declared.Collected.the-variants as collecting
 use Rattle.machine.specs.Layout.{Image, fixed}
-use Rattle.machine.specs.declared.Refusal.the-variants.{Sizes, Registers, Chain, Roles, Bits, Reference, Entry, NoChoicePoint, ControlShort}
+use Rattle.machine.specs.declared.Refusal.the-variants.{Sizes, Registers, Chain, Roles, Bits, Reference, Entry, First, NoChoicePoint, ControlShort}
 use Rattle.machine.specs.Refusals.{Where, nowhere, Verdict, accepted, refused, verdict}
 use Rattle.machine.specs.Answers.{Answer, placeIn, verdictOf, answerOf, counted, workAfter, Collects}
 use Rattle.freeze.specs.declared.AreaCounts.{AreaCounts}
@@ -76,6 +76,7 @@ refusal-numbered Roles = (4, nowhere, refl)
 refusal-numbered (Bits p) = (5, placeIn p, refl)
 refusal-numbered (Reference p) = (6, placeIn p, refl)
 refusal-numbered (Entry p) = (7, placeIn p, refl)
+refusal-numbered (First p) = (17, placeIn p, refl)
 refusal-numbered NoChoicePoint = (8, nowhere, refl)
 refusal-numbered ControlShort = (9, nowhere, refl)
 

@@ -1,4 +1,4 @@
--- Worked examples of document 01, by evaluation: Night A, and a smallest image for each refusal, with its place. Assumes nothing.
+-- Worked examples, by evaluation: document 01's Night A, and a smallest image for each refusal, with its place. Assumes nothing.
 use Prim.Native.Nat.{ℕ, zero, suc}
 use mathlib.Core.Path.{_≡_, refl}
 use mathlib.Core.Bool.{Bool, true, false}
@@ -9,14 +9,14 @@ use Rattle.machine.specs.declared.Area.the-variants.{Heap, Control, Trai
 use Rattle.machine.specs.Layout.{Image, P, L, E, B, T, H, N, none, field, argument, word}
 use Rattle.machine.specs.Chains.{frame, point, frames, points, walk, sound, faultOf}
 use Rattle.machine.specs.Roles.{Role, cell, CL, CE, own, gives, some, has, isField, hasRole, roles, conflict}
-use Rattle.machine.specs.Refusals.{nowhere, inArea, accepted, refused, first, scan, orElse, firstOf, legalSizes, enough, fits, marked, functorAt, refersWell, namesCell, badHeap, badStack, badControl, goodEntry, badEntry, verdict, stepVerdict}
+use Rattle.machine.specs.Refusals.{nowhere, inArea, accepted, refused, first, scan, orElse, firstOf, legalSizes, enough, fits, marked, functorAt, refersWell, namesCell, badHeap, badStack, badControl, goodEntry, badEntry, isFirst, onFirst, entryOnFirst, verdict, stepVerdict}
 use Rattle.machine.specs.Moved.{below, moveWord, moveEntry, each, kept, closeUp, moveControl, moveStack, moved}
 use Rattle.machine.specs.Stepped.{among, undone, undoes, reset, copied, stepped}
 use Rattle.machine.specs.NightA.{night}
 
 -- what an evaluation opens
 unfoldable pub opened : Unit {0}
-unfolding extent field argument word frames points walk sound faultOf gives some has isField hasRole conflict first scan orElse firstOf legalSizes enough fits marked functorAt refersWell namesCell badHeap badStack badControl goodEntry badEntry verdict stepVerdict below moveWord moveEntry each kept closeUp moveControl moveStack moved among undone undoes reset copied stepped
+unfolding extent field argument word frames points walk sound faultOf gives some has isField hasRole conflict first scan orElse firstOf legalSizes enough fits marked functorAt refersWell namesCell badHeap badStack badControl goodEntry badEntry isFirst onFirst entryOnFirst verdict stepVerdict below moveWord moveEntry each kept closeUp moveControl moveStack moved among undone undoes reset copied stepped
 opened = tt
 
 pub night-walk : walk night ≡ frame 0 2 12 ∷ point 4 12 3 9 ∷ frame 0 2 4 ∷ []
@@ -92,6 +92,11 @@ pub entry-refused : verdict 0 (image (saves 0 none none 1 0 0 []) [] [] (0 ∷ [
 unfolding opened
 entry-refused = refl
 
-pub step-refused : (stepVerdict 0 (image (saves 0 none none 0 0 0 []) [] [] []) ≡ refused 8 nowhere) × (stepVerdict 8 (image (saves 0 none 0 0 0 0 []) (saves 0 none none 0 0 1 (12 ∷ [])) [] []) ≡ refused 9 nowhere)
+-- a trail entry at a functor's cell; two STRUCTs on one functor are no fault
+pub first-refused : (verdict 2 (image (saves 0 none none 1 2 0 []) [] (20508 ∷ 4 ∷ []) (0 ∷ [])) ≡ refused 17 (inArea Trail 0)) × (verdict 3 (image (saves 0 none none 0 3 0 []) [] (20508 ∷ 4 ∷ 4 ∷ []) []) ≡ accepted)
 unfolding opened
-step-refused = (refl, refl)
+first-refused = (refl, refl)
+
+pub step-refused : (stepVerdict 0 (image (saves 0 none none 0 0 0 []) [] [] []) ≡ refused 8 nowhere) × (stepVerdict 8 (image (saves 0 none 0 0 0 0 []) (saves 0 none none 0 0 1 (12 ∷ [])) [] []) ≡ refused 9 nowhere) × (stepVerdict 2 (image (saves 0 none none 1 2 0 []) [] (20508 ∷ 4 ∷ []) (0 ∷ [])) ≡ refused 17 (inArea Trail 0))
+unfolding opened
+step-refused = (refl, refl, refl)

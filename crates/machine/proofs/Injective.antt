@@ -5,7 +5,7 @@ use mathlib.Core.Logic.{_≢_}
 use Rattle.machine.specs.declared.Area.the-variants.{Heap}
 use Rattle.machine.specs.declared.Place.{Place}
 use Rattle.machine.specs.declared.Refusal.{Refusal}
-use Rattle.machine.specs.declared.Refusal.the-variants.{Sizes, Registers, Chain, Roles, Bits, Reference, Entry, NoChoicePoint, ControlShort}
+use Rattle.machine.specs.declared.Refusal.the-variants.{Sizes, Registers, Chain, Roles, Bits, Reference, Entry, First, NoChoicePoint, ControlShort}
 use Rattle.machine.specs.declared.Collected.{Collected}
 use Rattle.machine.specs.declared.Collected.the-variants as collected
 use Rattle.machine.specs.declared.Stepped.{Stepped}
@@ -30,7 +30,8 @@ refusalOf (suc (suc (suc (suc (suc zero))))) w = Bits (placeOf w)
 refusalOf (suc (suc (suc (suc (suc (suc zero)))))) w = Reference (placeOf w)
 refusalOf (suc (suc (suc (suc (suc (suc (suc zero))))))) w = Entry (placeOf w)
 refusalOf (suc (suc (suc (suc (suc (suc (suc (suc zero)))))))) w = NoChoicePoint
-refusalOf (suc (suc (suc (suc (suc (suc (suc (suc (suc n))))))))) w = ControlShort
+refusalOf (suc (suc (suc (suc (suc (suc (suc (suc (suc zero))))))))) w = ControlShort
+refusalOf (suc (suc (suc (suc (suc (suc (suc (suc (suc (suc n)))))))))) w = First (placeOf w)
 
 record Numbered (r : Refusal) : Type 0 where
   number : ℕ
@@ -47,6 +48,7 @@ numbered Roles = record { number = 4; place = nowhere; verdict = refl; inverse =
 numbered (Bits p) = record { number = 5; place = placeIn p; verdict = refl; inverse = refl }
 numbered (Reference p) = record { number = 6; place = placeIn p; verdict = refl; inverse = refl }
 numbered (Entry p) = record { number = 7; place = placeIn p; verdict = refl; inverse = refl }
+numbered (First p) = record { number = 17; place = placeIn p; verdict = refl; inverse = refl }
 numbered NoChoicePoint = record { number = 8; place = nowhere; verdict = refl; inverse = refl }
 numbered ControlShort = record { number = 9; place = nowhere; verdict = refl; inverse = refl }
 

@@ -18,6 +18,7 @@ use Rattle.machine.proofs.Walks.{whole-linked}
 use Rattle.machine.proofs.Roles.{has-is, is-has, apart-iff}
 use Rattle.machine.proofs.Accepted.{Accepted, Granted}
 use Rattle.machine.proofs.Checks.{enough-iff, fits-iff, bits-iff, heap-iff, stack-iff, control-iff, entry-iff}
+use Rattle.machine.proofs.FirstCells.{firsts-iff}
 use Rattle.machine.proofs.Firsts.{gate-passes, passes-gate, refused-not, scan-passes, passes-scan, else-left, else-passes, else-right, first-all, all-first}
 
 pub chain-passes : (f : Fault) → chainCheck f ≡ accepted → f ≡ whole
@@ -53,6 +54,7 @@ module _ (lent : ℕ) (X : Image) where
             control = λ i l. control-iff X w i .0 (passes-scan (badControl X) (reg X N) (λ i. refused 6 (inArea Control (fixed + i))) (λ i. refused-not _ _) (a .1 .1 .1 .1 .1 .1 .1 .1 .1 .0) i l);
           };
           trail = λ i l. entry-iff X w i .0 (passes-scan (badEntry X) (reg X T) (λ i. refused 7 (inArea Trail i)) (λ i. refused-not _ _) (a .1 .1 .1 .1 .1 .1 .1 .1 .1 .1 .0) i l);
+          clear = firsts-iff X w .0 (a .1 .1 .1 .1 .1 .1 .1 .1 .1 .1 .1);
         },
         s .1,
       )
@@ -81,7 +83,7 @@ module _ (lent : ℕ) (X : Image) where
                         scan-passes _ _ _ (λ i l. stack-iff X w i .1 (a .refer .stack i)),
                         (
                           scan-passes _ _ _ (λ i l. control-iff X w i .1 (a .refer .control i l)),
-                          (scan-passes _ _ _ (λ i l. entry-iff X w i .1 (a .trail i l)), tt),
+                          (scan-passes _ _ _ (λ i l. entry-iff X w i .1 (a .trail i l)), firsts-iff X w .1 (a .clear)),
                         ),
                       ),
                     ),

@@ -7,7 +7,7 @@ use mathlib.Core.List.{List, _++_}
 use lib.ListN.{length, drop, replicate}
 use Rattle.machine.specs.declared.Place.{Place}
 use Rattle.machine.specs.declared.Refusal.{Refusal}
-use Rattle.machine.specs.declared.Refusal.the-variants.{Sizes, Registers, Chain, Roles, Bits, Reference, Entry, NoChoicePoint, ControlShort}
+use Rattle.machine.specs.declared.Refusal.the-variants.{Sizes, Registers, Chain, Roles, Bits, Reference, Entry, First, NoChoicePoint, ControlShort}
 use Rattle.machine.specs.declared.Collected.{Collected}
 use Rattle.machine.specs.declared.Collected.the-variants as collected
 use Rattle.machine.specs.declared.Stepped.{Stepped}
@@ -29,6 +29,7 @@ verdictOf Roles = refused 4 nowhere
 verdictOf (Bits p) = refused 5 (placeIn p)
 verdictOf (Reference p) = refused 6 (placeIn p)
 verdictOf (Entry p) = refused 7 (placeIn p)
+verdictOf (First p) = refused 17 (placeIn p)
 verdictOf NoChoicePoint = refused 8 nowhere
 verdictOf ControlShort = refused 9 nowhere
 

@@ -11,7 +11,7 @@ use Rattle.machine.specs.Layout.{Image, B, T, H, N, fixed, none, reg, at
 use Rattle.machine.specs.Chains.{Fault, whole, broken, walk, faultOf}
 use Rattle.machine.specs.Roles.{isCell, isField, conflict}
 
--- "Place is an area (heap, stack, control or trail) and the lowest index in it"; "only reasons 5, 6 and 7 carry one"
+-- "Place is an area (heap, stack, control or trail) and the lowest index in it"; "only reasons 5, 6 and 7 carry one"; 17 does too
 pub data Where : Type 0 where
   nowhere : Where
   inArea : Area → ℕ → Where
@@ -117,16 +117,51 @@ cellChecks X later =
     ∷ scan (badControl X) (reg X N) (λ i. refused 6 (inArea Control (fixed + i)))
     ∷ later
 
-abbrev pub entryChecks : Image → List Verdict
-entryChecks X = scan (badEntry X) (reg X T) (λ i. refused 7 (inArea Trail i)) ∷ []
+abbrev pub entryChecks : Image → List Verdict → List Verdict
+entryChecks X later = scan (badEntry X) (reg X T) (λ i. refused 7 (inArea Trail i)) ∷ later
 
--- 1 to 7 in their order; 1 is of the sizes alone
+-- 17, document 02, order 2: "the first cell of any STRUCT's target, dead cells included". A STRUCT whose first cell is x:
+abbrev pub structTo : ℕ → ℕ → Bool
+structTo w x = eqb (tagOf w) STRUCT && eqb (valueOf w) x
+
+-- one of i, i + 1, .. below i + n passes the test
+abbrev pub someOf : (ℕ → Bool) → ℕ → ℕ → Bool
+someOf test i n = ltb (first test i n) (i + n)
+
+-- a STRUCT among the heap's cells below H, the stack's cells and the saved arguments has x for its first cell
+unfoldable pub isFirst : Image → ℕ → Bool
+isFirst X x =
+    someOf (λ i. structTo (getD (X .heap) i 0) x) 0 (reg X H)
+    || (someOf (λ i. isCell X i && structTo (word X i) x) 0 (length (X .stack))
+    || someOf (λ i. structTo (argument (X .control) 0 i) x) 0 (reg X N))
+
+-- "a VAR at, a LIST pair over, or a STRUCT whose arguments cover": the cells that a word refers to, but not a STRUCT's own first cell
+abbrev pub coversFrom : ℕ → ℕ
+coversFrom w = pick (eqb (tagOf w) STRUCT) (valueOf w + 1) (valueOf w)
+
+unfoldable pub onFirst : Image → ℕ → Bool
+onFirst X w = someOf (isFirst X) (coversFrom w) (valueOf w + extent (X .heap) w - coversFrom w)
+
+-- "so is a trail entry there"
+unfoldable pub entryOnFirst : Image → ℕ → Bool
+entryOnFirst X a = inHeap a && isFirst X a
+
+-- "17, with place, after 7 and before 8, areas in order heap, stack, control, trail"
+abbrev pub firstChecks : Image → List Verdict
+firstChecks X =
+    scan (λ i. onFirst X (getD (X .heap) i 0)) (reg X H) (λ i. refused 17 (inArea Heap i))
+    ∷ scan (λ i. isCell X i && onFirst X (word X i)) (length (X .stack)) (λ i. refused 17 (inArea Stack i))
+    ∷ scan (λ i. onFirst X (argument (X .control) 0 i)) (reg X N) (λ i. refused 17 (inArea Control (fixed + i)))
+    ∷ scan (λ i. entryOnFirst X (getD (X .trail) i 0)) (reg X T) (λ i. refused 17 (inArea Trail i))
+    ∷ []
+
+-- 1 to 7 in their order, then 17; 1 is of the sizes alone
 abbrev pub imageChecks : Image → List Verdict
 imageChecks X =
     gate (fits X) (refused 2 nowhere)
     ∷ chainCheck (faultOf X (walk X))
     ∷ scan (conflict X) (length (X .stack)) (λ i. refused 4 nowhere)
-    ∷ cellChecks X (entryChecks X)
+    ∷ cellChecks X (entryChecks X (firstChecks X))
 
 abbrev pub checks : ℕ → Image → List Verdict
 checks lent X = gate (enough lent X) (refused 1 nowhere) ∷ imageChecks X

@@ -57,7 +57,7 @@ pub struct Place {
     pub index: usize,
 }
 
-// The refusals 1 to 9 in the order of checks.
+// The refusals in the order of checks: 1 to 7, then 17, then 8 and 9.
 pub enum Refusal {
     Sizes,
     Registers,
@@ -66,6 +66,7 @@ pub enum Refusal {
     Bits(Place),
     Reference(Place),
     Entry(Place),
+    First(Place),
     NoChoicePoint,
     ControlShort,
 }

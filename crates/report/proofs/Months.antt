@@ -5,7 +5,7 @@ use mathlib.Core.List.{List, [], _∷_}
 use native.Mathlib.Omega.{arith}
 use lib.ListN.{getD, set, replicate}
 use Rattle.machine.specs.declared.Refusal.{Refusal}
-use Rattle.machine.specs.declared.Refusal.the-variants.{Sizes, Registers, Chain, Roles, Bits, Reference, Entry, NoChoicePoint, ControlShort}
+use Rattle.machine.specs.declared.Refusal.the-variants.{Sizes, Registers, Chain, Roles, Bits, Reference, Entry, First, NoChoicePoint, ControlShort}
 use Rattle.machine.specs.Refusals.{Where, refused}
 use Rattle.machine.specs.Answers.{verdictOf}
 use Rattle.tally.specs.declared.Tally.{Tally}
@@ -27,6 +27,7 @@ number-counts Roles number place e = let z : number ≡ 4 = cc in omega arith
 number-counts (Bits p) number place e = let z : number ≡ 5 = cc in omega arith
 number-counts (Reference p) number place e = let z : number ≡ 6 = cc in omega arith
 number-counts (Entry p) number place e = let z : number ≡ 7 = cc in omega arith
+number-counts (First p) number place e = let z : number ≡ 17 = cc in omega arith
 number-counts NoChoicePoint number place e = let z : number ≡ 8 = cc in omega arith
 number-counts ControlShort number place e = let z : number ≡ 9 = cc in omega arith
 

@@ -1,5 +1,5 @@
--- The answer of a step back from an image that passes 1 to 7: 8 where B is none, 9 where the control area is too short for the choice point,
--- and else the entries undone. Assumes nothing.
+-- The answer of a step back from an image that passes 1 to 7 and 17: 8 where B is none, 9 where the control area is too short for the choice
+-- point, and else the entries undone. Assumes nothing.
 use Prim.Native.Nat.{ℕ, _+_, _<_}
 use mathlib.Core.Path.{_≡_, refl, sym, ap, _∙_}
 use mathlib.Core.Logic.{_≢_}

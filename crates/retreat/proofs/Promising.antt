@@ -1,5 +1,5 @@
--- What the parts of a step back leave is what `StepsBack` promises: a refusal of 1 to 7 is given as it is, and of an image that passes them
--- 8, 9 or the entries undone are given and the lent words are zeros. Assumes nothing.
+-- What the parts of a step back leave is what `StepsBack` promises: a refusal of 1 to 7 or 17 is given as it is, and of an image that passes
+-- them 8, 9 or the entries undone are given and the lent words are zeros. Assumes nothing.
 use Prim.Native.Nat.{ℕ}
 use mathlib.Core.Path.{_≡_, refl, sym, ap, _∙_}
 use mathlib.Core.Logic.{_≢_}
@@ -19,7 +19,7 @@ use Rattle.retreat.specs.Retreat.{Retreats}
 use Rattle.retreat.proofs.Answering.{stepRefusal}
 
 module _ (X : Image) (work : List ℕ) where
-  -- refused by 1 to 7
+  -- refused by 1 to 7 or 17
   pub refusal-given : (r : Refusal) → verdictOf r ≡ verdict (length work) X → {work′ : List ℕ} → (verdict (length work) X ≢ accepted → work′ ≡ workAfter X work) → StepsBack X work (stepping.Refused r) X work′
   unfolding stepVerdict stepAnswerOf
   refusal-given r e c =
@@ -30,7 +30,7 @@ module _ (X : Image) (work : List ℕ) where
         cleared = c n;
       }
 
-  -- what passes 1 to 7 is answered as 8 and 9 say, and of the lent words the noted ones are cleared
+  -- what passes these is answered as 8 and 9 say, and of the lent words the noted ones are cleared
   pub answer-given : verdict (length work) X ≡ accepted → {r : Stepped} {Y : Image} → Retreats X r Y → (work₁ : List ℕ) {work′ : List ℕ} → drop (workWords X) work₁ ≡ drop (workWords X) work → work′ ≡ clearedTo X work₁ → StepsBack X work r Y work′
   unfolding stepVerdict
   answer-given passes t work₁ d c =

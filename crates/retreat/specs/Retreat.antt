@@ -1,5 +1,5 @@
--- What a step back promises of an image that passes 1 to 7: with 8 or 9 the answer says so and nothing changes; else the answer counts the
--- entries undone and the areas are `stepped`. Assumes nothing.
+-- What a step back promises of an image that passes 1 to 7 and 17: with 8 or 9 the answer says so and nothing changes; else the answer counts
+-- the entries undone and the areas are `stepped`. Assumes nothing.
 use mathlib.Core.Path.{_≡_}
 use mathlib.Core.Logic.{_≢_}
 use Rattle.machine.specs.declared.Stepped.{Stepped}

@@ -55,7 +55,7 @@ fn copy(control: &mut [u32], stack: &[u32], b: usize, count: usize)
     }
 }
 
-// The step back from an image that passes 1 to 7.
+// The step back from an image that passes 1 to 7 and 17.
 fn retreat(control: &mut [u32], stack: &mut [u32], heap: &mut [u32], trail: &[u32]) -> Stepped
     requires { ⌜ Accepted (record { control = now control; stack = now stack; heap = now heap; trail = now trail }) ⌝ }
     ensures { λ r. ⌜ Retreats (record { control = now (control .entry); stack = now (stack .entry); heap = now (heap .entry); trail = now (trail .entry) }) r (record { control = now (control .exit); stack = now (stack .exit); heap = now (heap .exit); trail = now (trail .entry) }) ⌝ }

@@ -1,11 +1,13 @@
-//! The order of checks: refusals 1 to 7, one function each.
+//! The order of checks: refusals 1 to 7 and 17, one function each.
+
+use std::collections::BTreeSet;
 
 use crate::chain::{walk, Chains};
 use crate::image::{Image, FIXED_WORDS, MOST_ARGUMENTS};
-use crate::refer::{refers_wrongly, Holder};
+use crate::refer::{names_a_functor, refers_wrongly, Holder};
 use crate::refusal::*;
 use crate::role::{roles, Roles};
-use crate::word::{address, bits, Address};
+use crate::word::{address, bits, tag, value, Address, Tag};
 
 pub const MOST_HEAP: usize = 1_048_576;
 pub const MOST_STACK: usize = 262_144;
@@ -35,6 +37,7 @@ pub fn check(image: &Image, work_length: usize) -> Result<Checked, Refusal> {
     bits_clear(image, &roles)?;
     references_right(image, &roles)?;
     entries_right(image, &roles)?;
+    functors_unnamed(image, &roles)?;
     Ok(Checked { chains, roles })
 }
 
@@ -69,7 +72,7 @@ pub fn counts_fit(image: &Image) -> bool {
 }
 
 /// "For 5 and 6 the cells are the heap's below H, dead or not, the stack's and the control's
-/// saved arguments", in the order in which places are tried.
+/// saved arguments", and for 17 too, in the order in which places are tried.
 fn cells(image: &Image, roles: &Roles) -> Vec<(Area, usize, u32)> {
     let control = image.control_header();
     let heap = (0..control.h).map(|x| (Area::Heap, x, image.heap[x]));
@@ -115,6 +118,31 @@ fn entries_right(image: &Image, roles: &Roles) -> Result<(), Refusal> {
         };
         if !right {
             return Err(refused_at(WRONG_ENTRY, Area::Trail, index));
+        }
+    }
+    Ok(())
+}
+
+/// "the first cell of any STRUCT's target, dead cells included"
+fn first_cells(image: &Image, roles: &Roles) -> BTreeSet<usize> {
+    let cells = cells(image, roles).into_iter();
+    let structs = cells.filter(|(_, _, word)| tag(*word) == Tag::Struct);
+    structs.map(|(_, _, word)| value(word) as usize).collect()
+}
+
+/// Refusal 17: the referring cell or entry is at fault, "areas in order heap, stack, control,
+/// trail".
+fn functors_unnamed(image: &Image, roles: &Roles) -> Result<(), Refusal> {
+    let first_cells = first_cells(image, roles);
+    for (area, index, word) in cells(image, roles) {
+        if names_a_functor(&image.heap, &first_cells, word) {
+            return Err(refused_at(FUNCTOR_NAMED, area, index));
+        }
+    }
+    for index in 0..image.control_header().t {
+        let entry = address(image.trail[index]);
+        if matches!(entry, Address::Heap(x) if first_cells.contains(&x)) {
+            return Err(refused_at(FUNCTOR_NAMED, Area::Trail, index));
         }
     }
     Ok(())

@@ -1,5 +1,6 @@
-//! "What a cell refers to", and when it refers wrongly.
+//! "What a cell refers to", and when it refers wrongly or to a functor's cell.
 
+use std::collections::BTreeSet;
 use std::ops::Range;
 
 use crate::image::Image;
@@ -47,4 +48,14 @@ fn is_functor(image: &Image, index: usize) -> bool {
         Some(first) if index < h => tag(*first) == Tag::Const && arity(*first) >= 1,
         _ => false,
     }
+}
+
+/// Document 02, order 2: "a VAR at, a LIST pair over, or a STRUCT whose arguments cover, the first
+/// cell of any STRUCT's target". A STRUCT's own first cell is none of its arguments.
+pub fn names_a_functor(heap: &[u32], first_cells: &BTreeSet<usize>, word: u32) -> bool {
+    let mut cells = refers_to(heap, word);
+    if tag(word) == Tag::Struct {
+        cells.start += 1;
+    }
+    cells.any(|x| first_cells.contains(&x))
 }

@@ -27,7 +27,7 @@ pub struct Place {
     pub index: usize,
 }
 
-/// A refused call: its number, and a place for 5, 6 and 7 alone.
+/// A refused call: its number, and a place for 5, 6, 7 and 17 alone.
 #[derive(Clone, Copy, Debug, PartialEq, Eq)]
 pub struct Refusal {
     pub number: u32,
@@ -49,6 +49,7 @@ pub const COUNT_ABOVE_ROOM: u32 = 12;
 pub const BYTES_AFTER_END: u32 = 13;
 pub const COUNTS_DIFFER: u32 = 14;
 pub const OUTPUT_TOO_SHORT: u32 = 15;
+pub const FUNCTOR_NAMED: u32 = 17;
 
 /// A refusal without a place.
 pub fn refused(number: u32) -> Refusal {

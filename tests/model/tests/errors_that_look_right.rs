@@ -4,6 +4,7 @@ mod common;
 
 use common::*;
 use model::image::Image;
+use model::refusal::Area;
 use model::word::NONE;
 
 /// Marking a whole structure because one argument is marked.
@@ -23,12 +24,15 @@ fn a_pair_inside_a_structure_holds_two_cells() {
     assert_eq!(image.heap, [k(2), k(3), 0, 0, 0]);
 }
 
-/// Skipping a structure's arguments because its functor's cell is marked.
+/// Skipping a structure's arguments because its functor's cell is marked: since document 02's order
+/// 2 only a STRUCT can have marked it. A constant that no STRUCT refers to is a plain one.
 #[test]
-fn a_var_at_a_functor_does_not_hide_its_arguments() {
+fn a_var_at_a_functor_is_refused_and_at_a_constant_holds_one_cell() {
     let heap = [functor(5, 1), li(2), k(1), k(2)];
-    let mut image = tiny(&[v(0), st(0)], &heap);
-    assert_eq!(collected(&mut image), Ok(counts((4, 0), (0, 0))));
+    let both = tiny(&[v(0), st(0)], &heap);
+    assert_refused(&both, 17, Some((Area::Control, 7)));
+    let mut structure = tiny(&[st(0), st(0)], &heap);
+    assert_eq!(collected(&mut structure), Ok(counts((4, 0), (0, 0))));
     let mut var_alone = tiny(&[v(0)], &heap);
     assert_eq!(collected(&mut var_alone), Ok(counts((1, 3), (0, 0))));
 }

@@ -19,20 +19,21 @@ fn assert_share(what: &str, met: u64, all: u64, thousandths: u64) {
 fn assert_images(tally: &Tally) {
     let all = tally.images;
     assert_share("accepted", tally.collect.of(0), all, 400);
-    for number in 1..=7 {
+    for number in (1..=7).chain([17]) {
         let name = format!("collect refused {number}");
         assert_share(&name, tally.collect.of(number), all, 3);
     }
-    for number in [0, 8, 9] {
+    for number in [0, 8, 9, 17] {
         let name = format!("step back {number}");
         assert_share(&name, tally.step_back.of(number), all, 3);
     }
-    for number in [5, 6] {
+    for number in [5, 6, 17] {
         for area in [Area::Heap, Area::Stack, Area::Control] {
             let name = format!("{number} {}", area.name());
             assert_share(&name, tally.at(number, area), all, 3);
         }
     }
+    assert_share("17 trail", tally.at(17, Area::Trail), all, 3);
     let accepted = tally.collect.of(0);
     assert_share("cells kept and dropped", tally.cells_both, accepted, 500);
     assert_share("entries of both kinds", tally.entries_both, accepted, 300);

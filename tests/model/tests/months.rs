@@ -187,7 +187,8 @@ fn the_comparison_s_months_meet_every_answer() {
         let ending = met.bad.map_or(0, |bad| bad.number);
         *endings.entry(ending).or_default() += 1;
     }
-    assert_eq!(refused.keys().copied().collect::<Vec<_>>(), [3, 4, 5, 6, 7]);
+    let numbers: Vec<u32> = refused.keys().copied().collect();
+    assert_eq!(numbers, [3, 4, 5, 6, 7, 17]);
     assert!(refused.values().all(|count| *count > 100), "{refused:?}");
     let endings_met: Vec<u32> = endings.keys().copied().collect();
     assert_eq!(endings_met, [0, 10, 11, 12, 14]);

@@ -8,7 +8,7 @@ use model::image::Image;
 use model::random::Random;
 use model::reached::reached;
 use model::refer::refers_to;
-use model::word::{address, stack_address, tag, value, Address, Tag, NONE};
+use model::word::{address, arity, stack_address, tag, value, Address, Tag, NONE};
 
 const SEED: u64 = 11;
 const COUNT: u64 = 20_000;
@@ -87,13 +87,14 @@ fn heap_features(image: &Image, checked: &Checked) -> Vec<&'static str> {
         let count = cells.clone().filter(|x| kept.contains(*x)).count();
         count > 0 && count < cells.len()
     });
-    let overlapping = structs.iter().any(|one| {
-        let mut others = structs.iter();
-        others.any(|two| one.start < two.start && two.start < one.end)
+    let shared = structs.iter().any(|one| {
+        let same = structs.iter().filter(|two| one.start == two.start);
+        same.count() > 1
     });
-    let at_functor = heap.iter().any(|word| {
-        let at = value(*word) as usize;
-        tag(*word) == Tag::Var && structs.iter().any(|cells| cells.start == at)
+    // A constant that would do as a functor, but no STRUCT refers to it.
+    let at_look_alike = heap.iter().any(|word| {
+        let target = heap.get(value(*word) as usize).copied().unwrap_or(0);
+        tag(*word) == Tag::Var && tag(target) == Tag::Const && arity(target) > 0
     });
     // An upward and a downward reference between reached cells make most cycles.
     let upward = |x: &usize| refers_to(heap, heap[*x]).any(|y| y > *x);
@@ -101,8 +102,8 @@ fn heap_features(image: &Image, checked: &Checked) -> Vec<&'static str> {
     let indexes = kept.indexes();
     holding(&[
         ("structure partly kept", partly),
-        ("structures overlap", overlapping),
-        ("VAR at a functor", at_functor),
+        ("two STRUCTs at one functor", shared),
+        ("VAR at what looks like a functor", at_look_alike),
         ("upward reference kept", indexes.iter().any(upward)),
         ("downward reference kept", indexes.iter().any(downward)),
         ("dead cells", indexes.len() < heap.len()),
@@ -143,9 +144,9 @@ const WANTED: [(&str, u64); 26] = [
     ("saved arguments", 300),
     ("wide choice point", 2),
     ("stack to stack", 200),
-    ("structure partly kept", 100),
-    ("structures overlap", 50),
-    ("VAR at a functor", 20),
+    ("structure partly kept", 60),
+    ("two STRUCTs at one functor", 50),
+    ("VAR at what looks like a functor", 20),
     ("upward reference kept", 200),
     ("downward reference kept", 200),
     ("dead cells", 400),

@@ -1,4 +1,4 @@
--- `admit::check_image` meets its contract: registers, chains, roles and words are checked in the table's order, each on what the checks
+-- `admit::check_image` meets its contract: registers, chains, roles and noted words are checked in the table's order, each on what the checks
 -- before it have shown. Assumes nothing.
 use Prim.Native.Nat.{_+_}
 use mathlib.Core.Path.{_≡_, refl, sym, subst, _∙_}
@@ -10,7 +10,7 @@ use lib.ListN.{length}
 use Rattle.machine.specs.Layout.{Image}
 use Rattle.machine.specs.Refusals.{fits}
 use Rattle.chains.specs.Notes.{Walks}
-use Rattle.admit.proofs.Admitting.{registers-stop, chain-stop, roles-stop, words-noted, words-checked}
+use Rattle.admit.proofs.Admitting.{registers-stop, chain-stop, roles-stop, words-noted, noted-checked}
 use Rattle.admit.proofs.check_image.Statement.{statement}
 use Rattle.admit.proofs.check_image.Tie as tie
 
@@ -69,8 +69,8 @@ returns-3 c =
     let e = c .before .apart .ensures .1 (not-true _ (c .if3 .taken)) in
     roles-stop (image (w .before .before .before .before .before .before)) _ (fit (w .before .before .before .before .before)) _ (whole-walked w) (e .0) (e .1) (e .2)
 
-check-words-requires : tie.Need-check-words-requires
-check-words-requires c κs =
+check-noted-requires : tie.Need-check-noted-requires
+check-noted-requires c κs =
     let w = c .before .before .before .before in
     words-noted (image (w .before .before .before .before .before .before)) _ (fit (w .before .before .before .before .before)) _ (whole-walked w) (c .before .before .apart .ensures .0 (not-false _ (c .before .if3 .left))) (entry (w .before .before .before .before .before .before) .pre)
 
@@ -79,8 +79,8 @@ same-length-3 c = search needs
 
 returns-4 : tie.Need-returns-4
 returns-4 c =
-    let w = c .before .before .before .before .before in
-    words-checked (image (w .before .before .before .before .before .before)) _ (fit (w .before .before .before .before .before)) _ (whole-walked w) (c .before .before .before .apart .ensures .0 (not-false _ (c .before .before .if3 .left))) (entry (w .before .before .before .before .before .before) .pre) (c .check-words .ensures)
+    let w = c .before .before .before .before .before .before .before in
+    noted-checked (image (w .before .before .before .before .before .before)) _ (fit (w .before .before .before .before .before)) _ (whole-walked w) (c .before .before .before .before .before .apart .ensures .0 (not-false _ (c .before .before .before .before .if3 .left))) (entry (w .before .before .before .before .before .before) .pre) (c .before .before .check-noted .ensures)
 
 pub check-image-spec : {M : Type 1} → statement M
 check-image-spec =
@@ -94,6 +94,6 @@ check-image-spec =
     apart-requires
     same-length-2
     returns-3
-    check-words-requires
+    check-noted-requires
     same-length-3
     returns-4)

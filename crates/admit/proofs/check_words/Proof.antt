@@ -3,7 +3,7 @@ use mathlib.Core.Path.{refl, sym, ap, _∙_}
 use borrow.Author.Needs.{needs}
 use Rattle.machine.specs.Layout.{field}
 use Rattle.cells.specs.Cells.{checkedTo}
-use Rattle.admit.proofs.Admitting.{words-refused, words-passed}
+use Rattle.admit.proofs.Words.{words-refused, words-passed}
 use Rattle.admit.proofs.check_words.Statement.{statement}
 use Rattle.admit.proofs.check_words.Tie as tie
 

@@ -1,5 +1,5 @@
--- `retreat::step_back` meets its contract: what 1 to 7 refuse is answered so, and what passes them is accepted, as `retreat` requires.
--- Assumes nothing.
+-- `retreat::step_back` meets its contract: what 1 to 7 or 17 refuse is answered so, and what passes them is accepted, as `retreat`
+-- requires. Assumes nothing.
 use mathlib.Core.Path.{_≡_, sym, ap, _∙_}
 use native.Mathlib.Omega.{arith}
 use borrow.Author.Needs.{needs}
@@ -17,7 +17,7 @@ use Rattle.retreat.proofs.step_back.Tie as tie
 abbrev image : tie.After-admit → Image
 image d = let a = d .before .before .before .before .before .before .before .before .before .before .args in record { control = a .control .now; stack = a .stack .now; heap = a .heap .now; trail = a .trail .now }
 
--- it passes 1 to 7
+-- it passes 1 to 7 and 17
 passes : (c : tie.After-enum-told) → verdict (length (c .before .before .before .before .before .before .before .before .before .before .before .before .before .before .args .work .now)) (image (c .before .before .before .before)) ≡ accepted
 unfolding checkedTo
 passes c = sym (c .before .before .before .before .admit .ensures .gives) ∙ ap checkedTo (c .enum-told .given .1)

@@ -3,8 +3,11 @@
 use super::call::Call;
 use crate::refusal::Area;
 
-/// Refusal numbers 1 to 15; 0 counts the accepted.
-const NUMBERS: usize = 16;
+/// Refusal numbers up to 17; 0 counts the accepted.
+const NUMBERS: usize = 18;
+
+/// The refusals that name a place.
+const WITH_A_PLACE: [u32; 4] = [5, 6, 7, 17];
 const AREAS: usize = 5;
 
 #[derive(Clone, Debug, Default)]
@@ -40,7 +43,7 @@ pub struct Tally {
     pub freeze: Numbers,
     pub thaw: Numbers,
     pub record: Numbers,
-    /// Collections refused 5, 6 or 7, by number and area.
+    /// Collections refused with a place, by number and area.
     places: [[u64; AREAS]; NUMBERS],
     /// Accepted collections that kept cells, dropped cells, did both; the same for entries.
     pub cells_kept: u64,
@@ -75,7 +78,7 @@ impl Tally {
             }
         }
         text += "places:";
-        for number in [5, 6, 7] {
+        for number in WITH_A_PLACE {
             for area in [Area::Heap, Area::Stack, Area::Control, Area::Trail] {
                 let count = self.at(number, area);
                 if count > 0 {

@@ -34,7 +34,7 @@ fn some_area<'a>(random: &mut Random, image: &'a mut Image) -> &'a mut [u32] {
 
 /// One cell and its area: the heap below H, the stack's cells and the control's arguments have
 /// equal chances, as far as they have any.
-fn some_cell_word<'a>(
+pub fn some_cell_word<'a>(
     random: &mut Random,
     image: &'a mut Image,
     spots: &Spots,

@@ -4,6 +4,7 @@ mod ages;
 mod damage;
 mod damage_cells;
 mod damage_chain;
+mod damage_functor;
 pub mod file;
 mod layout;
 pub mod month;

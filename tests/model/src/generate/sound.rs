@@ -31,7 +31,7 @@ pub fn sound_image(random: &mut Random, sizes: &Sizes) -> Image {
         bind_later(random, &mut image, &ages, &terms);
     }
     let filled: Vec<bool> = image.trail.iter().map(|entry| *entry != NONE).collect();
-    fill_trail(random, &mut image, &ages, &filled);
+    fill_trail(random, &mut image, &ages, &terms, &filled);
     let trail_extra = some_extra(random);
     image.trail.extend(random.garbage_list(trail_extra));
     image

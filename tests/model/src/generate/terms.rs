@@ -6,7 +6,7 @@ use crate::random::Random;
 use crate::refer::Holder;
 use crate::word::*;
 
-/// A constant that a STRUCT may refer to.
+/// A constant that a STRUCT may refer to, and so nothing else may.
 #[derive(Clone, Copy, Debug)]
 struct Functor {
     at: usize,
@@ -15,6 +15,7 @@ struct Functor {
 
 /// What the cells of one image may refer to.
 pub struct Terms {
+    /// Rising, and none among the arguments of another.
     functors: Vec<Functor>,
     /// The share of constants and unbound cells; the rest refers to something.
     still: usize,
@@ -34,7 +35,7 @@ pub fn lay_constants(random: &mut Random, image: &mut Image, widest: usize) -> T
         }
     }
     Terms {
-        functors: functors_below(image, h),
+        functors: some_functors(random, image, h),
         still: random.one_of(&[10, 25, 50, 80]),
     }
 }
@@ -55,13 +56,18 @@ fn constant(random: &mut Random) -> u32 {
     cell(Tag::Const, value)
 }
 
-/// Any constant whose arguments end at or below H will do, meant as a functor or not.
-fn functors_below(image: &Image, h: usize) -> Vec<Functor> {
+/// Any constant whose arguments end at or below H will do, meant as a functor or not. Those that
+/// are not taken stay plain constants, to which all but a STRUCT may refer.
+fn some_functors(random: &mut Random, image: &Image, h: usize) -> Vec<Functor> {
+    let share = random.one_of(&[60, 90]);
     let mut functors = Vec::new();
+    let mut free = 0;
     for (at, word) in image.heap[..h].iter().enumerate() {
         let arity = arity(*word);
-        if tag(*word) == Tag::Const && arity >= 1 && at + 1 + arity <= h {
+        let fits = tag(*word) == Tag::Const && arity >= 1 && at + 1 + arity <= h;
+        if fits && at >= free && random.percent(share) {
             functors.push(Functor { at, arity });
+            free = at + 1 + arity;
         }
     }
     functors
@@ -116,12 +122,39 @@ impl Terms {
         let h = ages.h[age];
         let found = match random.below(4) {
             0 => self.some_struct(random, h),
-            1 if h >= 2 => Some(cell(Tag::List, random.below(h - 1) as u32)),
+            1 => self.some_list(random, h),
             2 => some_stack_var(random, ages, holder, age),
-            _ if h >= 1 => Some(cell(Tag::Var, random.below(h) as u32)),
-            _ => None,
+            _ => self.some_var(random, h),
         };
         found.unwrap_or_else(|| constant(random))
+    }
+
+    /// Whether a STRUCT may refer to this cell, so that nothing else may.
+    pub fn is_functor(&self, x: usize) -> bool {
+        let found = self.functors.binary_search_by_key(&x, |functor| functor.at);
+        found.is_ok()
+    }
+
+    fn some_var(&self, random: &mut Random, h: usize) -> Option<u32> {
+        let x = self.some_index(random, h, |x| !self.is_functor(x))?;
+        Some(cell(Tag::Var, x as u32))
+    }
+
+    fn some_list(&self, random: &mut Random, h: usize) -> Option<u32> {
+        let free = |x| !self.is_functor(x) && !self.is_functor(x + 1);
+        let x = self.some_index(random, h.saturating_sub(1), free)?;
+        Some(cell(Tag::List, x as u32))
+    }
+
+    /// An index below `limit` that will do, if one is found soon.
+    fn some_index(
+        &self,
+        random: &mut Random,
+        limit: usize,
+        will_do: impl Fn(usize) -> bool,
+    ) -> Option<usize> {
+        let mut tried = (0..8).map(|_| random.below(limit));
+        tried.find(|x| *x < limit && will_do(*x))
     }
 
     fn some_struct(&self, random: &mut Random, h: usize) -> Option<u32> {

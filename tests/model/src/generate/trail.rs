@@ -53,16 +53,22 @@ fn bind_cell(
 }
 
 /// Fills each trail word below T with a legal entry; a word that has one already is left.
-pub fn fill_trail(random: &mut Random, image: &mut Image, ages: &Ages, filled: &[bool]) {
+pub fn fill_trail(
+    random: &mut Random,
+    image: &mut Image,
+    ages: &Ages,
+    terms: &Terms,
+    filled: &[bool],
+) {
     for (index, already) in filled.iter().enumerate() {
         if !already {
-            image.trail[index] = some_entry(random, image, ages, index);
+            image.trail[index] = some_entry(random, image, ages, terms, index);
         }
     }
 }
 
 /// A legal entry. Some repeat an older one, some name words without a role.
-fn some_entry(random: &mut Random, image: &Image, ages: &Ages, index: usize) -> u32 {
+fn some_entry(random: &mut Random, image: &Image, ages: &Ages, terms: &Terms, index: usize) -> u32 {
     // The entry outlives every step back to a T above it.
     let age = ages.t.iter().rposition(|t| *t > index).unwrap_or(0);
     let h = ages.h[age];
@@ -77,20 +83,23 @@ fn some_entry(random: &mut Random, image: &Image, ages: &Ages, index: usize) -> 
             _ if h > 0 => Some(random.below(h) as u32),
             _ => None,
         };
-        if let Some(entry) = found.filter(|entry| fits(random, image, ages, *entry)) {
+        if let Some(entry) = found.filter(|entry| fits(random, ages, terms, *entry)) {
             return entry;
         }
     }
-    any_entry(image, ages, h)
+    any_entry(image, ages, terms, h)
 }
 
-/// Mostly no entry on a functor or on a saved argument: undoing it would spoil the next state.
-fn fits(random: &mut Random, image: &Image, ages: &Ages, entry: u32) -> bool {
-    let spoils = match address(entry) {
-        Address::Heap(x) => tag(image.heap[x]) == Tag::Const,
-        Address::Stack(x) => ages.of_stack(x) > 0 && !ages.is_cell_in(x, ages.of_stack(x)),
-    };
-    !spoils || random.percent(10)
+/// No entry on a functor, and mostly none on a saved argument: undoing it would spoil the next
+/// state.
+fn fits(random: &mut Random, ages: &Ages, terms: &Terms, entry: u32) -> bool {
+    match address(entry) {
+        Address::Heap(x) => !terms.is_functor(x),
+        Address::Stack(x) => {
+            let spoils = ages.of_stack(x) > 0 && !ages.is_cell_in(x, ages.of_stack(x));
+            !spoils || random.percent(10)
+        }
+    }
 }
 
 fn some_word_without_a_role(random: &mut Random, ages: &Ages, length: usize) -> Option<u32> {
@@ -99,12 +108,15 @@ fn some_word_without_a_role(random: &mut Random, ages: &Ages, length: usize) -> 
     free.then(|| stack_address(index))
 }
 
-/// The first legal entry there is.
-fn any_entry(image: &Image, ages: &Ages, h: usize) -> u32 {
-    let legal = (0..image.stack.len()).find(|x| !ages.roles.is_field(*x));
-    match legal {
-        Some(x) if h == 0 => stack_address(x),
-        _ => 0,
+/// The first legal entry there is: below `h`, in the stack, or else below the image's own H, where
+/// every functor has an argument that will do.
+fn any_entry(image: &Image, ages: &Ages, terms: &Terms, h: usize) -> u32 {
+    let in_heap = |h: usize| (0..h).find(|x| !terms.is_functor(*x));
+    let in_stack = (0..image.stack.len()).find(|x| !ages.roles.is_field(*x));
+    match (in_heap(h), in_stack) {
+        (Some(x), _) => x as u32,
+        (None, Some(x)) => stack_address(x),
+        (None, None) => in_heap(ages.h[0]).unwrap_or(0) as u32,
     }
 }
 

@@ -1,0 +1,7 @@
+pub mod Some
+pub mod Flagging
+pub mod Covering
+pub mod Areas
+pub mod Passing
+pub mod Bridge
+pub mod Checking

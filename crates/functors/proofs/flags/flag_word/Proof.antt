@@ -1,0 +1,43 @@
+-- `functors::flags::flag_word` meets its contract: a STRUCT's first cell is flagged, and any other word has none. Assumes nothing.
+use native.Mathlib.Omega.{arith}
+use Rattle.functors.proofs.Flagging.{flags-nothing, no-struct, struct-flagged}
+use borrow.Author.Needs.{needs}
+use Rattle.functors.proofs.flags.flag_word.Statement.{statement}
+use Rattle.functors.proofs.flags.flag_word.Tie as tie
+
+tag-requires : tie.Need-tag-requires
+tag-requires c κs = search needs
+
+returns : tie.Need-returns
+returns c = flags-nothing _ 1 (no-struct (c .before .before .before .args .word) (λ e. omega arith))
+
+value-requires : tie.Need-value-requires
+value-requires c κs = search needs
+
+cast-x : tie.Need-cast-x
+cast-x c = search needs
+
+mul-work : tie.Need-mul-work
+mul-work c = search needs
+
+slice-write-work : tie.Need-slice-write-work
+slice-write-work c = omega (arith, c .before .before .before .before .pre (omega arith))
+
+same-length : tie.Need-same-length
+same-length c = search needs
+
+returns-2 : tie.Need-returns-2
+returns-2 c = struct-flagged _ (c .before .before .before .before .args .word) (omega arith) (c .value .ensures) (omega (arith, c .before .before .before .before .pre (omega arith)))
+
+pub flag-word-spec : {M : Type 1} → statement M
+flag-word-spec =
+    tie.close
+    (tie.spec
+    tag-requires
+    returns
+    value-requires
+    cast-x
+    mul-work
+    slice-write-work
+    same-length
+    returns-2)
