@@ -54,7 +54,7 @@ static void row(const areas *image, const char *name, uint32_t refusal,
 
 static void heading(const char *title)
 {
-    printf("\n%-34s %8s %10s %7s ms %7s\n", title, "cells", "peer ms",
+    printf("\n%-34s %8s %7s ms %7s ms %7s\n", title, "cells", peer_name,
            product_name, "ratio");
 }
 
@@ -138,7 +138,7 @@ static void growth_row(areas *image, const kind *of, int repetitions,
 
 static void growth_table(areas *image, int repetitions, summary *s)
 {
-    printf("\n%-34s %20s   %20s\n", "", "peer", product_name);
+    printf("\n%-34s %20s   %20s\n", "", peer_name, product_name);
     printf("%-34s %6s %6s %6s   %6s %6s %6s\n", "ns a word, by size", "64 K",
            "256 K", "1 M", "64 K", "256 K", "1 M");
     for (size_t i = 0; i < kind_count; i++)

@@ -15,8 +15,10 @@ const kind kinds[] = {
     {"list, falling", list_falling},
     {"list, zigzag", list_zigzag},
     {"list, shuffled", list_shuffled},
+    {"list, rising, and a structure", list_and_structure},
     {"one wide structure", wide_structure},
     {"wide structures", wide_structures},
+    {"tariff tables", tariff_tables},
     {"shared chain of frames", shared_frames},
     {"full trail", full_trail},
 };
@@ -122,7 +124,8 @@ static void note_first(uint32_t word, uint8_t *first)
         first[value_of(word)] = 1;
 }
 
-/* Of the stack's cells only those of the newest frame hold structures. */
+/* Of the stack's cells only those of the newest frame hold structures, of the
+   control area only the one saved argument. */
 void leave_functors(areas *to)
 {
     const uint32_t *frame = to->stack + to->control[E] + FRAME_FIXED;
@@ -133,6 +136,7 @@ void leave_functors(areas *to)
         note_first(to->heap[i], first);
     for (uint32_t i = 0; i < to->control[L]; i++)
         note_first(frame[i], first);
+    note_first(to->control[FIXED], first);
     for (size_t i = 0; i < to->trail_len; i++)
         if (to->trail[i] < STACK_BASE && first[to->trail[i]])
             to->trail[i]++;

@@ -40,8 +40,10 @@ void list_rising(areas *to, size_t size);
 void list_falling(areas *to, size_t size);
 void list_zigzag(areas *to, size_t size);
 void list_shuffled(areas *to, size_t size);
+void list_and_structure(areas *to, size_t size);
 void wide_structure(areas *to, size_t size);
 void wide_structures(areas *to, size_t size);
+void tariff_tables(areas *to, size_t size);
 void shared_frames(areas *to, size_t size);
 void full_trail(areas *to, size_t size);
 

@@ -10,6 +10,8 @@
 #include "peer_roles.h"
 #include "peer_slide.h"
 
+const char peer_name[] = "peer";
+
 static int bad_sizes(const image *m)
 {
     return m->heap_len > HEAP_MOST || m->stack_len > STACK_MOST ||

@@ -28,6 +28,8 @@ typedef struct {
     uint64_t index, undone;
 } peer_stepped;
 
+extern const char peer_name[];
+
 peer_collected peer_collect(uint32_t *control, size_t control_len,
                             uint32_t *stack, size_t stack_len,
                             uint32_t *heap, size_t heap_len,

@@ -26,7 +26,9 @@ static inline uint32_t mark_structure(const uint32_t *heap, uint32_t *work,
     return top;
 }
 
-/* The image is sound, so no reference has to be doubted. */
+/* The image is sound, so no reference has to be doubted, and a structure whose
+   first cell is marked is passed over: only a STRUCT marks that cell, and with
+   it the others (refusal 17). */
 static void mark_from(const uint32_t *heap, uint32_t *work, uint32_t word)
 {
     for (uint32_t top = 0;;) {
@@ -41,6 +43,8 @@ static void mark_from(const uint32_t *heap, uint32_t *work, uint32_t word)
             top = mark_cell(heap, work, value + 1, top);
             break;
         case STRUCT:
+            if (work[value])
+                break;
             top = mark_structure(heap, work, value,
                                  value + 1 + arity_of(heap[value]), top);
         }

@@ -12,10 +12,10 @@ use Rattle.machine.specs.Refusals.{workWords}
 use Rattle.machine.specs.Reached.{Root, inControl, onStack, Reach, fromRoot, fromCell, Reached}
 use Rattle.machine.proofs.Chains.{role-low}
 use Rattle.machine.proofs.Roles.{has-is}
-use Rattle.machine.proofs.Accepted.{Accepted, Names}
+use Rattle.machine.proofs.Accepted.{Accepted, Names, To, First, byHeap, byStack, byControl, Clear}
 use Rattle.machine.proofs.Inside.{refers-low, names-nothing}
 use Rattle.chains.specs.Notes.{Noted}
-use Rattle.mark.specs.Marks.{Marked, Start, Within, Markable, MarksReached}
+use Rattle.mark.specs.Marks.{Marked, Start, Within, AnyCell, ClearAmong, Markable, MarksReached}
 use Rattle.mark.specs.Marks as marks
 
 -- a word that names a stack word refers to no heap cell
@@ -46,6 +46,19 @@ module _ {X : Image} (a : Accepted X) {work : List ℕ} (noted : Noted X work (l
   start-within w (marks.onStack i l e) =
       ⊎-elim (λ g. refers-low g) (λ n. names-within (reg X H) (n .0)) (a .refer .stack i (has-is X i cell (noted .role i l cell .0 e)))
 
+  -- refusal 17, said of a root and of every cell
+  root-clear : (w : ℕ) → Root X w → Clear X w × ((x : ℕ) → To w x → First X x)
+  unfolding word
+  root-clear w (inControl i l) = (a .clear .control i l, λ x t. byControl i l t)
+  root-clear w (onStack i e) = let c = has-is X i cell e in (a .clear .stack i c, λ x t. byStack i c t)
+
+  any-clear : (w : ℕ) → AnyCell (X .control) (X .stack) (X .heap) work w → Clear X w × ((x : ℕ) → To w x → First X x)
+  any-clear w (marks.onHeap y l) = (a .clear .heap y l, λ x t. byHeap y l t)
+  any-clear w (marks.root s) = root-clear w (start-root w s)
+
+  cells-clear : ClearAmong (X .heap) (AnyCell (X .control) (X .stack) (X .heap) work)
+  cells-clear w c x r other f = any-clear w c .0 x r other (any-clear (f .word) (f .among) .1 x (f .to))
+
   pub markable : workWords X ≤ length work → ((x : ℕ) → x < length (X .heap) → getD work x 0 ≡ 0) → Markable (X .control) (X .stack) (X .heap) work
   markable room blank = record {
     room = room;
@@ -55,6 +68,7 @@ module _ {X : Image} (a : Accepted X) {work : List ℕ} (noted : Noted X work (l
     unmarked = λ x l. blank x (omega (arith, a .fits .heap));
     cells = λ y l. refers-low (a .refer .heap y l);
     roots = start-within;
+    clear = cells-clear;
   }
 
   pub marks-reached : {work′ : List ℕ} → MarksReached (X .control) (X .stack) (X .heap) work work′ → (x : ℕ) → x < reg X H → Marked work′ x ↔ Reached X x

@@ -1,4 +1,5 @@
 pub mod Stacks
+pub mod Whole
 pub mod Drains
 pub mod Roots
 pub mod Marking

@@ -7,15 +7,17 @@ use native.Mathlib.Omega.{arith}
 use native.Mathlib.Decide.{decLt}
 use lib.ListN.{getD, length, take, drop, List·getD-append, List·getD-eq-default}
 use lib.Seq.{length-take-le, length-front, getD-take}
-use Rattle.cell.specs.Word.{Refers}
+use Rattle.cell.specs.Word.{valueOf, Refers}
 use Rattle.machine.specs.Layout.{H, fixed, field, argument}
 use Rattle.machine.specs.Reached.{Reach, fromRoot, fromCell}
 use Rattle.machine.specs.Roles.{noteAt}
 use Rattle.machine.proofs.Parts.{rest-at}
-use Rattle.mark.specs.Marks.{Marked, Start, inControl, onStack, Markable, MarksReached}
+use Rattle.mark.specs.Marks.{Marked, Start, inControl, onStack, AnyCell, onHeap, root, Markable, MarksReached}
+use Rattle.mark.specs.Whole.{Passable, CellsBelow, at}
 use Rattle.mark.specs.Pending.{Pushable, Pushed, Ready, Inside, Follows, here, next, Drained}
-use Rattle.mark.specs.Roots.{ByArgument, ByCell, PushedBelow}
+use Rattle.mark.specs.Roots.{Arguments, ByArgument, StackCells, ByCell, PushedBelow}
 use Rattle.mark.proofs.Stacks.{grown-sound, pushed-join, pushable-part, pushable-after}
+use Rattle.mark.proofs.Whole.{passable-pushed, passable-part, from-named}
 use Rattle.mark.proofs.Drains.{blank}
 use Rattle.mark.proofs.Roots.{put-front, put-rest}
 
@@ -30,12 +32,14 @@ module _ (control stack heap work : List ℕ) where
   unfolding argument
   argument-at i l = let e : 0 + fixed + (i - fixed) ≡ i = omega arith in ap (λ (n : ℕ). getD control n 0) e
 
+  argument-root : (w : ℕ) → Arguments control w → Start control stack heap work w
+  argument-root w (at i l p) = subst (Start control stack heap work) (argument-at i p) (inControl (i - fixed) (omega arith))
+
+  heap-cell : (w : ℕ) → CellsBelow (field control 0 H) heap w → AnyCell control stack heap work w
+  heap-cell w (at i l p) = onHeap i l
+
   argument-rooted : (x : ℕ) → ByArgument control heap x → Rooted control stack heap work x
-  argument-rooted x r = record {
-    root = argument control 0 (r .at - fixed);
-    isRoot = inControl (r .at - fixed) (omega (arith, r .below, r .picked));
-    refers = rw (argument-at (r .at) (r .picked)) (r .refers);
-  }
+  argument-rooted x r = record { root = getD control (r .at) 0; isRoot = argument-root _ (at (r .at) (r .below) (r .picked)); refers = r .refers }
 
   cell-rooted : (x : ℕ) → ByCell stack heap work x → Rooted control stack heap work x
   cell-rooted x r = record { root = getD stack (r .at) 0; isRoot = onStack (r .at) (r .below) (r .picked); refers = r .refers }
@@ -81,6 +85,16 @@ module _ {control stack heap work : List ℕ} (k : Markable control stack heap w
         | no l ↦ omega (arith, List·getD-eq-default (take h work) 0 {n = x} (omega (arith, front-length)))
       ]
 
+  -- no cell is marked, so no first cell is
+  cells-passable : Passable heap (AnyCell control stack heap work) (take h work)
+  cells-passable = record { clear = k .clear; whole = record { arguments = λ w l e marked. absurd (front-clear (valueOf w) marked) } }
+
+  any-argument : (w : ℕ) → Arguments control w → AnyCell control stack heap work w
+  any-argument w l = root (argument-root control stack heap work w l)
+
+  pub arguments-passable : Passable heap (Arguments control) (take h work)
+  arguments-passable = passable-part cells-passable any-argument
+
   -- after the saved arguments
   module _ {m : List ℕ} {t : ℕ} (p : Pushed heap (ByArgument control heap) (take h work) 0 m t) where
     abbrev work₁ : List ℕ
@@ -103,6 +117,15 @@ module _ {control stack heap work : List ℕ} (k : Markable control stack heap w
 
     pub cells-pushable : Pushable heap (ByCell stack heap work₁) (take h work₁) t
     cells-pushable = rw arguments-front (pushable-part (pushable-after roots-pushable p) cells-rooted)
+
+    any-cell : (w : ℕ) → StackCells stack heap work₁ w → AnyCell control stack heap work w
+    any-cell w (at i l e) = root (onStack i l (sym (arguments-keep-notes i) ∙ e))
+
+    passable-cells : Passable heap (AnyCell control stack heap work) (take h work₁)
+    passable-cells = rw arguments-front (passable-pushed cells-passable (from-named any-argument) p)
+
+    pub stack-passable : Passable heap (StackCells stack heap work₁) (take h work₁)
+    stack-passable = passable-part passable-cells any-cell
 
     -- after the stack's cells
     module _ {work₂ : List ℕ} {u : ℕ} (q : PushedBelow h heap (ByCell stack heap work₁) work₁ t work₂ u) where
@@ -129,6 +152,11 @@ module _ {control stack heap work : List ℕ} (k : Markable control stack heap w
 
       pub inside : Inside (length (take h work₂)) heap
       inside = rw cells-keep-front (k .cells)
+
+      pub heap-passable : Passable heap (CellsBelow (length (take h work₂)) heap) (take h work₂)
+      heap-passable =
+          rw cells-keep-front
+          (passable-part (passable-pushed passable-cells (from-named any-cell) (q .front)) (heap-cell control stack heap work))
 
       reached : {x : ℕ} → Follows heap (take h work₂) x → Reach heap (Start control stack heap work) x
       reached (here {x = x} m₁) =

@@ -118,15 +118,19 @@ module _ {heap : List ℕ} where
     low = omega (arith, q .same, q .small (p .low));
   }
 
+  -- cells that are marked already
+  pub pushed-marked : {P : ℕ → Type 0} (marks : List ℕ) (top : ℕ) → ((x : ℕ) → P x → Marked marks x) → Pushed heap P marks top marks top
+  pushed-marked marks top marked = record { grown = none; all = marked; same = refl; small = λ k. k }
+
   -- an empty set of cells
   pub pushed-none : {P : ℕ → Type 0} (marks : List ℕ) (top : ℕ) → ((x : ℕ) → P x → ⊥) → Pushed heap P marks top marks top
-  pushed-none marks top no-cell = record { grown = none; all = λ x p. absurd (no-cell x p); same = refl; small = λ k. k }
+  pushed-none marks top no-cell = pushed-marked marks top (λ x p. absurd (no-cell x p))
 
   -- ---- one cell
 
   module _ (marks : List ℕ) (top x : ℕ) where
     pub pushed-old : getD marks x 0 ≢ 0 → Pushed heap (λ (y : ℕ). y ≡ x) marks top marks top
-    pushed-old n = record { grown = none; all = λ y q. rw q (omega arith); same = refl; small = λ k. k }
+    pushed-old n = pushed-marked marks top (λ y q. rw q (omega arith))
 
     module _ (h : x < length marks) (e : getD marks x 0 ≡ 0) where
       pub pushed-new : Pushed heap (λ (y : ℕ). y ≡ x) marks top (set marks x (top + 1)) (x + 1)

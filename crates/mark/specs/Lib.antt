@@ -1,3 +1,4 @@
 pub mod Marks
+pub mod Whole
 pub mod Pending
 pub mod Roots

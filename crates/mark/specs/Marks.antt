@@ -8,6 +8,7 @@ use Rattle.cell.specs.Word.{Refers}
 use Rattle.machine.specs.Layout.{H, N, fixed, field, argument, heapMost}
 use Rattle.machine.specs.Roles.{cell, codeOf, noteAt}
 use Rattle.machine.specs.Reached.{Reach}
+use Rattle.machine.proofs.Accepted.{To}
 
 abbrev pub Marked : List ℕ → ℕ → Type 0
 Marked work x = 0 < getD work x 0
@@ -21,6 +22,21 @@ pub data Start (control stack heap work : List ℕ) : ℕ → Type 0 where
 abbrev pub Within : ℕ → List ℕ → ℕ → Type 0
 Within h heap w = (x : ℕ) → Refers heap w x → x < h
 
+-- a word that is a cell: a heap cell below H, or a root
+pub data AnyCell (control stack heap work : List ℕ) : ℕ → Type 0 where
+  onHeap : (y : ℕ) → y < field control 0 H → AnyCell control stack heap work (getD heap y 0)
+  root : {w : ℕ} → Start control stack heap work w → AnyCell control stack heap work w
+
+-- x is the first cell of a STRUCT among Words
+pub record FirstAmong (Words : ℕ → Type 0) (x : ℕ) : Type 0 where
+  pub word : ℕ
+  pub among : Words word
+  pub to : To word x
+
+-- refusal 17: no cell that a word among Words refers to, but a STRUCT's own first cell, is a first cell
+abbrev pub ClearAmong : List ℕ → (ℕ → Type 0) → Type 0
+ClearAmong heap Words = (w : ℕ) → Words w → (x : ℕ) → Refers heap w x → (To w x → ⊥) → FirstAmong Words x → ⊥
+
 pub record Markable (control stack heap work : List ℕ) : Type 0 where
   pub room : length heap + length stack ≤ length work
   pub small : length heap ≤ heapMost
@@ -29,6 +45,7 @@ pub record Markable (control stack heap work : List ℕ) : Type 0 where
   pub unmarked : (x : ℕ) → x < field control 0 H → getD work x 0 ≡ 0
   pub cells : (y : ℕ) → y < field control 0 H → Within (field control 0 H) heap (getD heap y 0)
   pub roots : (w : ℕ) → Start control stack heap work w → Within (field control 0 H) heap w
+  pub clear : ClearAmong heap (AnyCell control stack heap work)
 
 -- exactly what is reached from the roots is marked below H, and all other work words stay
 pub record MarksReached (control stack heap work work′ : List ℕ) : Type 0 where

@@ -5,8 +5,9 @@ ghost use lib.ListN.{length, take};
 ghost use Rattle.cell.specs.Word.{Refers};
 ghost use Rattle.machine.specs.Layout.{N, fixed, field, heapMost};
 ghost use Rattle.mark.specs.Marks.{Markable, MarksReached};
+ghost use Rattle.mark.specs.Whole.{Whole, Passable, CellsBelow};
 ghost use Rattle.mark.specs.Pending.{Range, Pushed, Pushable, Inside, Ready, Drained};
-ghost use Rattle.mark.specs.Roots.{ByArgument, ByCell, PushedBelow};
+ghost use Rattle.mark.specs.Roots.{Arguments, ByArgument, StackCells, ByCell, PushedBelow};
 use machine::CELL;
 use machine::FIXED;
 use machine::H;
@@ -53,7 +54,7 @@ fn push_pair(heap: &[u32], marks: &mut [u32], top: u32, a: usize) -> u32
 
 // Pushes the unmarked cells that a word refers to.
 fn push_word(heap: &[u32], marks: &mut [u32], top: u32, word: u32) -> u32
-    requires { ⌜ Pushable (now heap) (Refers (now heap) word) (now marks) top ⌝ }
+    requires { ⌜ Pushable (now heap) (Refers (now heap) word) (now marks) top × Whole (now heap) (λ (w : ℕ). w ≡ word) (now marks) ⌝ }
     ensures { λ r. ⌜ Pushed (now (heap .entry)) (Refers (now (heap .entry)) word) (now (marks .entry)) top (now (marks .exit)) r ⌝ }
 {
     let tag = cell::tag(word);
@@ -68,6 +69,12 @@ fn push_word(heap: &[u32], marks: &mut [u32], top: u32, word: u32) -> u32
         }
         return top;
     }
+    // Its first cell is marked: only a STRUCT can have done that, and it marked the arguments too.
+    if tag == cell::STRUCT {
+        if marks[a] != 0 {
+            return top;
+        }
+    }
     if tag == cell::LIST {
         return push_pair(heap, marks, top, a);
     }
@@ -78,6 +85,7 @@ fn push_word(heap: &[u32], marks: &mut [u32], top: u32, word: u32) -> u32
 fn drain(heap: &[u32], marks: &mut [u32], top: u32)
     requires { ⌜ Inside (length (now marks)) (now heap) ⌝ }
     requires { ⌜ (length (now marks) ≤ length (now heap)) × (length (now marks) ≤ heapMost) × Ready (now heap) (now marks) top ⌝ }
+    requires { ⌜ Passable (now heap) (CellsBelow (length (now marks)) (now heap)) (now marks) ⌝ }
     ensures { λ _. ⌜ Drained (now (heap .entry)) (now (marks .entry)) (now (marks .exit)) ⌝ }
 {
     let mut t = top;
@@ -91,6 +99,7 @@ fn drain(heap: &[u32], marks: &mut [u32], top: u32)
 // Pushes what the control area's saved arguments refer to, onto an empty pending stack.
 fn push_arguments(control: &[u32], heap: &[u32], marks: &mut [u32]) -> u32
     requires { ⌜ (fixed + field (now control) 0 N ≤ length (now control)) × Pushable (now heap) (ByArgument (now control) (now heap)) (now marks) 0 ⌝ }
+    requires { ⌜ Passable (now heap) (Arguments (now control)) (now marks) ⌝ }
     ensures { λ r. ⌜ Pushed (now (heap .entry)) (ByArgument (now (control .entry)) (now (heap .entry))) (now (marks .entry)) 0 (now (marks .exit)) r ⌝ }
 {
     let end = FIXED + control[N] as usize;
@@ -107,6 +116,7 @@ fn push_arguments(control: &[u32], heap: &[u32], marks: &mut [u32]) -> u32
 fn push_cells(stack: &[u32], heap: &[u32], work: &mut [u32], h: usize, top: u32) -> u32
     requires { ⌜ (length (now heap) + length (now stack) ≤ length (now work)) × (h ≤ length (now heap)) ⌝ }
     requires { ⌜ Pushable (now heap) (ByCell (now stack) (now heap) (now work)) (take h (now work)) top ⌝ }
+    requires { ⌜ Passable (now heap) (StackCells (now stack) (now heap) (now work)) (take h (now work)) ⌝ }
     ensures { λ r. ⌜ PushedBelow h (now (heap .entry)) (ByCell (now (stack .entry)) (now (heap .entry)) (now (work .entry))) (now (work .entry)) top (now (work .exit)) r ⌝ }
 {
     let notes = heap.len();

@@ -2,7 +2,7 @@
 use native.Mathlib.Omega.{arith}
 use mathlib.Core.Path.{sym}
 use Rattle.machine.specs.Layout.{field}
-use Rattle.mark.proofs.Marking.{front-length, arguments-pushable, arguments-keep-length, cells-pushable, cells-keep-length, cells-keep-front, inside, ready, marks-reached}
+use Rattle.mark.proofs.Marking.{front-length, arguments-pushable, arguments-passable, arguments-keep-length, cells-pushable, stack-passable, cells-keep-length, cells-keep-front, inside, ready, heap-passable, marks-reached}
 use borrow.Author.Needs.{needs}
 use Rattle.mark.proofs.mark.Statement.{statement}
 use Rattle.mark.proofs.mark.Tie as tie
@@ -32,14 +32,15 @@ push-arguments-requires : tie.Need-push-arguments-requires
 unfolding field
 push-arguments-requires c κs =
     let k = c .before .before .before .before .before .before .pre in
-    (k .arguments, arguments-pushable k)
+    ((k .arguments, arguments-pushable k), arguments-passable k)
 
 push-cells-requires : tie.Need-push-cells-requires
 unfolding field
 push-cells-requires c κs =
     let p = c .before .before .before in
     let k = start p .pre in
-    ((rw (arguments-keep-length k (p .push-arguments .ensures)) (k .room), k .top), cells-pushable k (p .push-arguments .ensures))
+    let e = p .push-arguments .ensures in
+    ((rw (arguments-keep-length k e) (k .room), k .top), (cells-pushable k e, stack-passable k e))
 
 slice-relend-prefix-drain : tie.Need-slice-relend-prefix-drain
 unfolding field
@@ -63,7 +64,10 @@ drain-requires c κs =
     let k = start p .pre in
     let l = cells-keep-front k (p .push-arguments .ensures) (q .push-cells .ensures) in (
       inside k (p .push-arguments .ensures) (q .push-cells .ensures),
-      (omega (arith, l), omega (arith, l), ready k (p .push-arguments .ensures) (q .push-cells .ensures)),
+      (
+        (omega (arith, l), omega (arith, l), ready k (p .push-arguments .ensures) (q .push-cells .ensures)),
+        heap-passable k (p .push-arguments .ensures) (q .push-cells .ensures),
+      ),
     )
 
 same-length : tie.Need-same-length

@@ -3,9 +3,11 @@ use Prim.Native.Nat.{ℕ, _+_, _≤_, _-_}
 use native.Mathlib.Omega.{arith}
 use mathlib.Core.Path.{_≡_}
 use Rattle.machine.specs.Layout.{N, fixed, field}
+use Rattle.mark.specs.Whole.{at}
 use Rattle.mark.specs.Pending.{Pushed}
 use Rattle.mark.specs.Roots.{Named}
 use Rattle.mark.proofs.Stacks.{pushable-part, pushable-after, pushed-none}
+use Rattle.mark.proofs.Whole.{passable-pushed, whole-at, from-named, picked-more}
 use Rattle.mark.proofs.Roots.{named-more}
 use Rattle.mark.proofs.push_arguments.Statement.{statement}
 use Rattle.mark.proofs.push_arguments.Tie as tie
@@ -43,9 +45,10 @@ unfolding field
 push-word-requires c κs =
     let d = c .before .before .before in
     let v = d .loop .inv in
-    pushable-part
-    (pushable-after (d .before .before .before .before .before .pre .1) (v .2))
-    (λ x r. record { at = d .loop .i; below = omega arith; picked = v .0; refers = r })
+    let k = d .before .before .before .before .before .pre in (
+      pushable-part (pushable-after (k .0 .1) (v .2)) (λ x r. record { at = d .loop .i; below = omega arith; picked = v .0; refers = r }),
+      whole-at (passable-pushed (k .1) (from-named (picked-more (omega arith))) (v .2)) _ (at (d .loop .i) (omega arith) (v .0)),
+    )
 
 add-i : tie.Need-add-i Inv-loop μ-loop
 unfolding field

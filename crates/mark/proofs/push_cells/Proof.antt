@@ -7,8 +7,10 @@ use native.Mathlib.Omega.{arith}
 use lib.Seq.{length-take-le}
 use lib.ListN.{length, getD, take}
 use Rattle.machine.proofs.Parts.{rest-at}
+use Rattle.mark.specs.Whole.{at}
 use Rattle.mark.specs.Roots.{Named, NotedCell, PushedBelow}
 use Rattle.mark.proofs.Stacks.{pushable-part, pushable-after, pushed-none}
+use Rattle.mark.proofs.Whole.{passable-pushed, whole-at, from-named, picked-more}
 use Rattle.mark.proofs.Roots.{named-more, named-skip, below-put}
 use Rattle.mark.proofs.push_cells.Statement.{statement}
 use Rattle.mark.proofs.push_cells.Tie as tie
@@ -64,10 +66,12 @@ shared-slice-read-push-word c = omega arith
 push-word-requires : tie.Need-push-word-requires Inv-loop μ-loop
 push-word-requires c κs =
     let d = c .before .before .before in
-    let picked = noted d ∙ c .before .before .if1 .taken in
-    pushable-part
-    (pushable-after (entry d .pre .1) (at-loop d .loop .inv .1 .front))
-    (λ x r. record { at = at-loop d .loop .i; below = omega arith; picked = picked; refers = r })
+    let v = at-loop d .loop .inv .1 .front in
+    let k = entry d .pre .1 in
+    let picked = noted d ∙ c .before .before .if1 .taken in (
+      pushable-part (pushable-after (k .0) v) (λ x r. record { at = at-loop d .loop .i; below = omega arith; picked = picked; refers = r }),
+      whole-at (passable-pushed (k .1) (from-named (picked-more (omega arith))) v) _ (at (at-loop d .loop .i) (omega arith) picked),
+    )
 
 add-i : tie.Need-add-i Inv-loop μ-loop
 add-i c = omega arith
