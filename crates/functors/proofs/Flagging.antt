@@ -34,11 +34,21 @@ no-struct w n x = not-so (structTo w x) (λ e. n (to-iff w x .0 e .struct))
 
 pub struct-flagged : (work : List ℕ) (w : ℕ) → tagOf w ≡ STRUCT → {v : ℕ} → v ≡ valueOf w → v < length work → Flags (structTo w) work (set work v 1) 1 1
 struct-flagged work w t {v} q l = record {
-  on = λ x e. let z : x ≡ v = sym (to-iff w x .0 e .first) ∙ sym q in rw (z, getD-set-same work v 1 0 l) (omega arith);
+  on = λ x e. let z : x ≡ v = sym (to-iff w x .0 e .first) ∙ sym q in rw z (getD-set-same work v 1 0 l);
   off = λ x e. getD-set-other work v x 1 0 (λ z. true-false (to-iff w x .1 (record { struct = t; first = sym q ∙ sym z })) e);
   none = λ z x. absurd (omega arith);
   few = omega arith;
   same = simp length-set;
+}
+
+-- a cell that is flagged already
+pub struct-again : (work : List ℕ) (w : ℕ) {v : ℕ} → v ≡ valueOf w → getD work v 0 ≡ 1 → Flags (structTo w) work work 1 1
+struct-again work w {v} q l = record {
+  on = λ x e. let z : x ≡ v = sym (to-iff w x .0 e .first) ∙ sym q in rw z l;
+  off = λ x e. refl;
+  none = λ z x. absurd (omega arith);
+  few = omega arith;
+  same = refl;
 }
 
 -- ---- two sets
@@ -112,8 +122,15 @@ module _ {set : ℕ → Bool} {work work′ : List ℕ} {met most : ℕ} (f : Fl
   pub flagged : (x : ℕ) → getD work x 0 ≡ 0 → markedIn work′ x ≡ set x
   flagged x z =
       elim (either (set x)) [
-        | inl e ↦ lt-ltb 0 (getD work′ x 0) (f .on x e) ∙ sym e
+        | inl e ↦ lt-ltb 0 (getD work′ x 0) (omega (arith, f .on x e)) ∙ sym e
         | inr e ↦ le-ltb 0 (getD work′ x 0) (omega (arith, f .off x e)) ∙ sym e
+      ]
+
+  pub one-flag : (x : ℕ) → getD work x 0 ≡ 0 → getD work′ x 0 ≤ 1
+  one-flag x z =
+      elim (either (set x)) [
+        | inl e ↦ omega (arith, f .on x e)
+        | inr e ↦ omega (arith, f .off x e)
       ]
 
   pub unflagged : met ≡ 0 → work′ ≡ work

@@ -1,6 +1,7 @@
 pub mod Some
 pub mod Flagging
 pub mod Covering
+pub mod Apart
 pub mod Areas
 pub mod Passing
 pub mod Bridge

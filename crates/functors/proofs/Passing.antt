@@ -19,13 +19,13 @@ use Rattle.machine.proofs.Tests.{and-left, and-right, and-rest, or-cases}
 use Rattle.machine.proofs.Accepted.{Sizes, Fits}
 use Rattle.machine.proofs.Firsts.{refused-not, passes-scan, first-all}
 use Rattle.machine.proofs.Checks.{good-is, heap-iff}
-use Rattle.machine.proofs.Inside.{refers-low}
+use Rattle.machine.proofs.Inside.{value-low, refers-low}
 use Rattle.machine.proofs.FirstCells.{to-iff}
 use Rattle.machine.proofs.Parts.{rest-same}
 use Rattle.cells.specs.Cells.{Right, notesCell}
-use Rattle.functors.specs.Functors.{heapTo, stackTo, controlTo, firstIn, Aims, Flags, Within, Contained, Entered}
+use Rattle.functors.specs.Functors.{heapTo, stackTo, controlTo, firstIn, Aims, Flags, Within, Named, Contained, Entered}
 use Rattle.functors.proofs.Flagging.{aims-clear}
-use Rattle.functors.proofs.Covering.{struct-below}
+use Rattle.functors.proofs.Covering.{list-below, struct-below}
 
 -- ---- words and entries
 
@@ -43,6 +43,13 @@ module _ (X : Image) where
     heap-within : (i : ℕ) → i < reg X H → Within (reg X H) (X .heap) (getD (X .heap) i 0)
     heap-within i l =
         refers-low (heap-iff X i .0 (passes-scan (badHeap X) (reg X H) (λ i. refused 6 (inArea Heap i)) (λ i. refused-not _ _) (first-all _ p .1 .1 .1 .0) i l))
+
+    heap-named : (i : ℕ) → i < reg X H → Named (reg X H) (getD (X .heap) i 0)
+    heap-named i l =
+        let g = heap-iff X i .0 (passes-scan (badHeap X) (reg X H) (λ i. refused 6 (inArea Heap i)) (λ i. refused-not _ _) (first-all _ p .1 .1 .1 .0) i l) in record {
+          var = λ e. value-low g (λ q. omega arith);
+          list = λ e. list-below (reg X H) (X .heap) (getD (X .heap) i 0) (heap-within i l) refl e;
+        }
 
     stack-within : (i : ℕ) → i < length (X .stack) → isCell X i ≡ true → Within (reg X H) (X .heap) (word X i)
     unfolding badStack
@@ -83,6 +90,7 @@ module _ (X : Image) (notes : ℕ) (sizes : Sizes X) (fits : Fits X) (behind : l
     room = r .room;
     arguments = fits .control;
     ofHeap = heap-within X p;
+    named = heap-named X p;
     ofStack = λ i l e. stack-within X p i l (sym (r .cells i l) ∙ e);
     ofControl = control-within X p;
   }

@@ -10,7 +10,8 @@ ghost use Rattle.machine.specs.Layout.{fixed};
 ghost use Rattle.machine.specs.Refusals.{structTo};
 ghost use Rattle.functors.specs.Functors.{heapTo, stackTo, controlTo, anyTo, firstIn, Aims, Flags, Contained};
 
-// Flags the first cell of one word's target, where the word is a STRUCT.
+// Flags the first cell of one word's target, where the word is a STRUCT. Thousands may share one target: it is read for each and written
+// for the first.
 fn flag_word(work: &mut [u32], word: u32) -> usize
     requires { ⌜ (tagOf word ≡ STRUCT → valueOf word < length (now work)) ⌝ }
     ensures { λ r. ⌜ Flags (structTo word) (now (work .entry)) (now (work .exit)) r 1 ⌝ }
@@ -19,7 +20,9 @@ fn flag_word(work: &mut [u32], word: u32) -> usize
         return 0;
     }
     let x = cell::value(word) as usize;
-    work[x] = 1;
+    if work[x] != 1 {
+        work[x] = 1;
+    }
     1
 }
 

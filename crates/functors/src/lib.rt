@@ -1,7 +1,8 @@
 // The check of refusal 17: no cell and no trail entry refers to the first cell of a STRUCT's target, but a STRUCT to its own. The first cells
-// are flagged in the heap's part of the work words, which is blank before and after, and counted there, so that the test of a word takes the
-// same time whatever its arity.
+// are flagged in the heap's part of the work words, which is blank before and after. Where no structure's arguments hold another's first cell
+// the flags decide; else they are counted, so that the test of a word takes the same time whatever its arity.
 mod flags; // flags.rt: a flag for each first cell
+mod tallies; // tallies.rt: whether the structures lie apart; if not, the flags are counted
 mod words; // words.rt: whether one word covers a first cell
 mod places; // places.rt: the lowest place of a word that does
 
@@ -28,7 +29,7 @@ pub fn check_first(
     if structures == 0 {
         return Checked::Passed;
     }
-    let total = counts::count(work, h);
+    let total = tallies::tally(heap, h, work);
     let checked = places::find(control, n, stack, heap, h, trail, work, notes, total);
     counts::clear(work, 0, h);
     checked

@@ -1,8 +1,8 @@
--- `functors::check_first` meets its contract: no STRUCT is no refusal, else the flags are counted, searched and cleared. Assumes nothing.
+-- `functors::check_first` meets its contract: no STRUCT is no refusal, else what the flags tell is searched and cleared. Assumes nothing.
 use native.Mathlib.Omega.{arith}
 use borrow.Author.Needs.{needs}
 use Rattle.machine.specs.Layout.{field}
-use Rattle.functors.proofs.Checking.{contained-at, nothing-found, countable, searchable, all-found}
+use Rattle.functors.proofs.Checking.{contained-at, nothing-found, tallyable, searchable, clearable, all-found}
 use Rattle.functors.proofs.check_first.Statement.{statement}
 use Rattle.functors.proofs.check_first.Tie as tie
 
@@ -29,24 +29,24 @@ returns : tie.Need-returns
 unfolding field
 returns c = nothing-found (c .before .before .before .before .before .before .before .before .before .before .before .before .pre) (c .before .before .before .flag-all .ensures) (c .if1 .taken)
 
-count-requires : tie.Need-count-requires
+tally-requires : tie.Need-tally-requires
 unfolding field
-count-requires c κs = countable (c .before .before .before .before .before .before .before .before .before .before .before .before .before .pre) (c .before .before .before .before .flag-all .ensures)
+tally-requires c κs = tallyable (c .before .before .before .before .before .before .before .before .before .before .before .before .before .pre) (c .before .before .before .before .flag-all .ensures)
 
 find-requires : tie.Need-find-requires
 unfolding field
-find-requires c κs = searchable (c .before .before .before .before .before .before .before .before .before .before .before .before .before .before .before .before .before .pre) (c .before .before .before .before .before .before .before .before .flag-all .ensures) (c .before .before .before .count .ensures)
+find-requires c κs = searchable (c .before .before .before .before .before .before .before .before .before .before .before .before .before .before .before .before .before .pre) (c .before .before .before .before .before .before .before .before .flag-all .ensures) (c .before .before .before .tally .ensures)
 
 clear-requires : tie.Need-clear-requires
 unfolding field
-clear-requires c κs = (omega arith, omega (arith, countable (c .before .before .before .before .before .before .before .before .before .before .before .before .before .before .before .before .before .before .before .pre) (c .before .before .before .before .before .before .before .before .before .before .flag-all .ensures) .0, c .before .before .before .before .before .count .ensures .same))
+clear-requires c κs = (omega arith, clearable (c .before .before .before .before .before .before .before .before .before .before .before .before .before .before .before .before .before .before .before .pre) (c .before .before .before .before .before .before .before .before .before .before .flag-all .ensures) (c .before .before .before .before .before .tally .ensures))
 
 same-length-2 : tie.Need-same-length-2
 same-length-2 c = search needs
 
 returns-2 : tie.Need-returns-2
 unfolding field
-returns-2 c = all-found (c .before .before .before .before .before .before .before .before .before .before .before .before .before .before .before .before .before .before .before .before .before .before .pre) (c .before .before .before .before .before .before .before .before .before .before .before .before .before .flag-all .ensures) (c .before .before .before .before .before .before .before .before .count .ensures) (c .before .before .before .before .find .ensures) (c .before .before .clear .ensures)
+returns-2 c = all-found (c .before .before .before .before .before .before .before .before .before .before .before .before .before .before .before .before .before .before .before .before .before .before .pre) (c .before .before .before .before .before .before .before .before .before .before .before .before .before .flag-all .ensures) (c .before .before .before .before .before .before .before .before .tally .ensures) (c .before .before .before .before .find .ensures) (c .before .before .clear .ensures)
 
 pub check-first-spec : {M : Type 1} → statement M
 check-first-spec =
@@ -59,7 +59,7 @@ check-first-spec =
     flag-all-requires
     same-length
     returns
-    count-requires
+    tally-requires
     find-requires
     clear-requires
     same-length-2

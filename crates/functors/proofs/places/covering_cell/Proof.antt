@@ -16,7 +16,7 @@ shared-slice-read-if1 c = search needs
 
 returns : tie.Need-returns
 unfolding coversStack
-returns c = λ firsts t. rw (ne-eqb _ _ (c .if1 .taken))
+returns c = λ firsts t o. rw (ne-eqb _ _ (c .if1 .taken))
 
 mul-covers-first : tie.Need-mul-covers-first
 mul-covers-first c = search needs
@@ -29,7 +29,7 @@ covers-first-requires c κs = let s = c .before .before .before .before .before 
 
 returns-2 : tie.Need-returns-2
 unfolding coversStack
-returns-2 c = λ firsts t. rw (eq-eqb _ _ (c .before .before .if1 .left)) (c .covers-first .ensures firsts t)
+returns-2 c = λ firsts t o. let e = eq-eqb _ _ (c .before .before .if1 .left) in rw e (c .covers-first .ensures firsts t (o e))
 
 pub covering-cell-spec : {M : Type 1} → statement M
 covering-cell-spec =

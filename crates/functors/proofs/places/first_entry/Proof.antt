@@ -3,14 +3,13 @@ use Prim.Native.Nat.{ℕ, _-_, _≤_}
 use mathlib.Core.Path.{sym, _∙_}
 use mathlib.Core.Bool.{Bool}
 use native.Mathlib.Omega.{arith}
-use Rattle.counts.specs.Counts.{Counting}
 use Rattle.cells.proofs.Seeking.{Seeking, seek-none, seek-more, seek-found, seek-end}
-use Rattle.functors.specs.Functors.{entryIn, Entered}
+use Rattle.functors.specs.Functors.{entryIn, Entered, Odd}
 use Rattle.functors.proofs.places.first_entry.Statement.{statement}
 use Rattle.functors.proofs.places.first_entry.Tie as tie
 
 abbrev Inv-loop : tie.InvT-loop
-Inv-loop trail t work i₀ i = (i ≤ t) × ((firsts : ℕ → Bool) (h : ℕ) → Counting firsts h work → Entered trail t h → Seeking (entryIn firsts trail) t i)
+Inv-loop trail t work i₀ i = (i ≤ t) × ((firsts : ℕ → Bool) (h : ℕ) → Odd firsts h work → Entered trail t h → Seeking (entryIn firsts trail) t i)
 
 abbrev μ-loop : tie.MeasureT-loop
 μ-loop trail t work i₀ i = t - i

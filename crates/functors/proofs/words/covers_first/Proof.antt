@@ -1,12 +1,11 @@
 -- `functors::words::covers_first` meets its contract: each return is the law of that tag. Assumes nothing.
-use Prim.Native.Nat.{ℕ, _+_}
+use Prim.Native.Nat.{ℕ, _+_, _<_}
 use mathlib.Core.Path.{refl, sym, ap, ap₂, _∙_}
 use mathlib.Core.Bool.{Bool, _||_, not}
 use native.Mathlib.Omega.{arith}
 use lib.Dec.{eqb}
 use Rattle.machine.proofs.Tests.{or-left}
-use Rattle.counts.proofs.Counting.{odd-cell}
-use Rattle.functors.proofs.Covering.{covers-const, covers-var, covers-list, covers-arguments, var-below, list-below, struct-below}
+use Rattle.functors.proofs.Covering.{covers-const, covers-var, covers-list, covers-arguments, var-below, list-below, struct-below, alone-clear}
 use borrow.Author.Needs.{needs}
 use Rattle.functors.proofs.words.covers_first.Statement.{statement}
 use Rattle.functors.proofs.words.covers_first.Tie as tie
@@ -15,7 +14,7 @@ tag-requires : tie.Need-tag-requires
 tag-requires c κs = search needs
 
 returns : tie.Need-returns
-returns c = λ firsts t. sym (covers-const firsts _ (c .before .before .before .before .args .word) (omega arith))
+returns c = λ firsts t o. sym (covers-const firsts _ (c .before .before .before .before .args .word) (omega arith))
 
 value-requires : tie.Need-value-requires
 value-requires c κs = search needs
@@ -25,10 +24,10 @@ names-first-requires c κs = λ l. let s = c .before .before .before .before .be
 
 returns-2 : tie.Need-returns-2
 returns-2 c =
-    λ firsts t.
+    λ firsts t o.
     let s = c .before .before .before .before .before .before .before in
     let v = c .before .before .value in
-    c .names-first .ensures firsts _ (t .counting) (λ l. var-below _ _ (s .args .word) (s .pre .2) (v .ensures) (omega arith) l)
+    c .names-first .ensures firsts _ (t .odd) (λ l. var-below _ _ (s .args .word) (s .pre .2) (v .ensures) (omega arith) l)
     ∙ sym (covers-var firsts _ (s .args .word) (v .ensures) (omega arith))
 
 cast-x : tie.Need-cast-x
@@ -39,11 +38,11 @@ counted-requires c κs = let s = c .before .before .before .before .before .befo
 
 returns-3 : tie.Need-returns-3
 returns-3 c =
-    λ firsts t.
+    λ firsts t o.
     let s = c .before .before .before .before .before .before .before .before .before in
     let v = c .before .before .before .before .value in
     let l = list-below _ _ (s .args .word) (s .pre .2) (v .ensures) (omega arith) in
-    sym (covers-list firsts _ (s .args .word) (v .ensures) (omega arith) ∙ or-left _ _ (sym (odd-cell (t .counting) (v .result) (omega arith)) ∙ sym (c .before .counted .ensures) ∙ c .if4 .taken))
+    sym (covers-list firsts _ (s .args .word) (v .ensures) (omega arith) ∙ or-left _ _ (sym (t .odd .at (v .result) (omega arith)) ∙ sym (c .before .counted .ensures) ∙ c .if4 .taken))
 
 add-counted : tie.Need-add-counted
 add-counted c = search needs
@@ -53,18 +52,24 @@ counted-requires-2 c κs = let s = c .before .before .before .before .before .be
 
 returns-4 : tie.Need-returns-4
 returns-4 c =
-    λ firsts t.
+    λ firsts t o.
     let s = c .before .before .before .before .before .before .before .before .before .before in
     let v = c .before .before .before .before .before .value in
     let l = list-below _ _ (s .args .word) (s .pre .2) (v .ensures) (omega arith) in
-    let first = sym (odd-cell (t .counting) (v .result) (omega arith)) ∙ sym (c .before .before .counted .ensures) ∙ c .before .if4 .left in
-    c .counted2 .ensures ∙ odd-cell (t .counting) (v .result + 1) l ∙ sym (covers-list firsts _ (s .args .word) (v .ensures) (omega arith) ∙ ap (λ (b : Bool). b || firsts (v .result + 1)) first)
+    let first = sym (t .odd .at (v .result) (omega arith)) ∙ sym (c .before .before .counted .ensures) ∙ c .before .if4 .left in
+    c .counted2 .ensures ∙ t .odd .at (v .result + 1) l ∙ sym (covers-list firsts _ (s .args .word) (v .ensures) (omega arith) ∙ ap (λ (b : Bool). b || firsts (v .result + 1)) first)
+
+returns-5 : tie.Need-returns-5
+returns-5 c =
+    λ firsts t o.
+    let s = c .before .before .before .before .before .before .before .before in
+    sym (alone-clear t (c .if5 .taken) (s .args .word) o (s .pre .2) (omega arith))
 
 mul-arity : tie.Need-mul-arity
 mul-arity c = search needs
 
 shared-slice-read-arity : tie.Need-shared-slice-read-arity
-shared-slice-read-arity c = let s = c .before .before .before .before .before .before .before .before in omega (arith, struct-below _ _ (s .args .word) (s .pre .2) (c .before .before .before .value .ensures) (omega arith) refl, s .pre .0)
+shared-slice-read-arity c = let s = c .before .before .before .before .before .before .before .before .before in omega (arith, struct-below _ _ (s .args .word) (s .pre .2) (c .before .before .before .before .value .ensures) (omega arith) refl, s .pre .0)
 
 arity-requires : tie.Need-arity-requires
 arity-requires c κs = search needs
@@ -73,7 +78,7 @@ add-boundary : tie.Need-add-boundary
 add-boundary c = search needs
 
 boundary-requires : tie.Need-boundary-requires
-boundary-requires c κs = let s = c .before .before .before .before .before .before .before .before .before in (omega (arith, struct-below _ _ (s .args .word) (s .pre .2) (c .before .before .before .before .value .ensures) (omega arith) (c .arity .ensures)), s .pre .1)
+boundary-requires c κs = let s = c .before .before .before .before .before .before .before .before .before .before in (omega (arith, struct-below _ _ (s .args .word) (s .pre .2) (c .before .before .before .before .before .value .ensures) (omega arith) (c .arity .ensures)), s .pre .1)
 
 add-boundary-2 : tie.Need-add-boundary-2
 add-boundary-2 c = search needs
@@ -82,13 +87,14 @@ add-boundary-3 : tie.Need-add-boundary-3
 add-boundary-3 c = search needs
 
 boundary-requires-2 : tie.Need-boundary-requires-2
-boundary-requires-2 c κs = let s = c .before .before .before .before .before .before .before .before .before .before in (omega (arith, struct-below _ _ (s .args .word) (s .pre .2) (c .before .before .before .before .before .value .ensures) (omega arith) (c .before .arity .ensures)), s .pre .1)
+boundary-requires-2 c κs = let s = c .before .before .before .before .before .before .before .before .before .before .before in (omega (arith, struct-below _ _ (s .args .word) (s .pre .2) (c .before .before .before .before .before .before .value .ensures) (omega arith) (c .before .arity .ensures)), s .pre .1)
 
-returns-5 : tie.Need-returns-5
-returns-5 c =
-    λ firsts t.
-    ap₂ (λ (i j : ℕ). not (eqb i j)) (c .before .boundary .ensures firsts (t .counting) (t .all)) (c .boundary2 .ensures firsts (t .counting) (t .all))
-    ∙ sym (covers-arguments firsts _ (c .before .before .before .before .before .before .before .before .before .before .before .args .word) (c .before .before .before .before .before .before .value .ensures) (omega arith) (c .before .before .arity .ensures))
+returns-6 : tie.Need-returns-6
+returns-6 c =
+    λ firsts t o.
+    let many : 0 < c .before .before .before .before .before .before .before .before .before .before .before .before .args .total = omega arith in
+    ap₂ (λ (i j : ℕ). not (eqb i j)) (c .before .boundary .ensures firsts (t .counting many) (t .all many)) (c .boundary2 .ensures firsts (t .counting many) (t .all many))
+    ∙ sym (covers-arguments firsts _ (c .before .before .before .before .before .before .before .before .before .before .before .before .args .word) (c .before .before .before .before .before .before .before .value .ensures) (omega arith) (c .before .before .arity .ensures))
 
 pub covers-first-spec : {M : Type 1} → statement M
 covers-first-spec =
@@ -105,6 +111,7 @@ covers-first-spec =
     add-counted
     counted-requires-2
     returns-4
+    returns-5
     mul-arity
     shared-slice-read-arity
     arity-requires
@@ -113,4 +120,4 @@ covers-first-spec =
     add-boundary-2
     add-boundary-3
     boundary-requires-2
-    returns-5)
+    returns-6)

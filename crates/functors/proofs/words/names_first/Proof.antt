@@ -3,7 +3,6 @@
 use mathlib.Core.Path.{_∙_}
 use borrow.Author.Tests.{lt-ltb, le-ltb}
 use Rattle.cell.specs.Word.{stackBase}
-use Rattle.counts.proofs.Counting.{odd-cell}
 use Rattle.functors.proofs.words.names_first.Statement.{statement}
 use Rattle.functors.proofs.words.names_first.Tie as tie
 
@@ -11,7 +10,7 @@ counted-requires : tie.Need-counted-requires
 counted-requires c κs = c .before .before .pre (c .if1 .taken)
 
 returns : tie.Need-returns
-returns c = λ firsts h k l. rw (lt-ltb _ stackBase (c .before .if1 .taken)) (c .counted .ensures ∙ odd-cell k _ (l (c .before .if1 .taken)))
+returns c = λ firsts h k l. rw (lt-ltb _ stackBase (c .before .if1 .taken)) (c .counted .ensures ∙ k .at _ (l (c .before .if1 .taken)))
 
 returns-2 : tie.Need-returns-2
 returns-2 c = λ firsts h k l. rw (le-ltb _ stackBase (c .if1 .left))
