@@ -73,7 +73,8 @@
  * CE and B from the control area; else it has no role.
  *
  * ---------------------------------------------------------------------------
- * REFUSALS. The first that applies, in the order of the table, is given, and
+ * REFUSALS. 'collect' also stands for why held, which makes the same checks
+ * first. The first that applies, in the order of the table, is given, and
  * only then. A refused call changes no area and no output, and each of its
  * counts is 0.
  *
@@ -109,6 +110,8 @@
  *    8  step back           B is BIK_NONE
  *    9  step back           the choice point's 7 + n is above the control area's
  *                           length
+ *   18  why held            the index is at or above H
+ *   19  why held            the chain is longer than the room
  *   10  thaw, record_at     the file ends early: inside a record (offset of the
  *                           record), or where one should begin (the file's
  *                           length)
@@ -198,6 +201,36 @@ bik_stepped bik_step_back(uint32_t *control, size_t control_len,
                           uint32_t *heap, size_t heap_len,
                           uint32_t *trail, size_t trail_len,
                           uint32_t *work, size_t work_len);
+
+/* Why a heap cell is held. */
+typedef struct {
+    uint32_t refusal;    /* 0: held or dead; else 1 to 7, 17, 18 or 19 */
+    uint32_t area;       /* of the place, for 5, 6, 7 and 17; else 0 */
+    uint64_t index;      /* of the place, in that area; else 0 */
+    uint32_t held;       /* 1: held; 0: dead, or refused */
+    uint32_t root_area;  /* held: where the root stands, BIK_STACK or BIK_CONTROL */
+    uint64_t root_index; /* and its index in that area */
+    uint64_t length;     /* held: how many heap cells the chain has */
+} bik_held;
+
+/*
+ * Tells why the heap cell is held: by a root (a saved argument of the control
+ * area, a frame's cell or a choice point's saved argument) and a chain of heap
+ * cells, of which the root refers to the first, each to the next, and the last
+ * is the asked one. It is the shortest such chain, and of those as short the one
+ * with the lowest places from the root on, control before stack. Exactly the
+ * cells that a collection would drop are dead.
+ *
+ * The chain's heap indexes are written to the front of the room; its other words
+ * stay, and all of them where the cell is dead or the call refused. H words are
+ * always enough. No area changes; the work words are as after any call.
+ */
+bik_held bik_why_held(uint32_t *control, size_t control_len,
+                      uint32_t *stack, size_t stack_len,
+                      uint32_t *heap, size_t heap_len,
+                      uint32_t *trail, size_t trail_len,
+                      uint32_t *work, size_t work_len,
+                      uint32_t cell, uint32_t *room, size_t room_len);
 
 /* The part of an area that an address names. */
 typedef struct {

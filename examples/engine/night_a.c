@@ -1,8 +1,8 @@
 /*
  * Night A, the small image of document 01, through the library: written as a
- * freeze file and read back, looked at, collected, stepped back, collected
- * again; then what refusals look like, and the smallest image. `make check`
- * compares what it prints with night_a.expected.
+ * freeze file and read back, looked at, asked why some cells are held, collected,
+ * stepped back, collected again; then what refusals look like, and the smallest
+ * image. `make check` compares what it prints with night_a.expected.
  */
 #include <inttypes.h>
 #include <stdio.h>
@@ -83,6 +83,24 @@ static void look_up(const machine *m, uint32_t address)
            areas[r.area], r.index, r.length);
 }
 
+/* Who holds a heap cell, and by which chain of at most room_len cells. */
+static void why_held(machine *m, uint32_t cell, size_t room_len)
+{
+    uint32_t room[HEAP];
+    const bik_held r = bik_why_held(m->control, CONTROL, m->stack, STACK,
+                                    m->heap, HEAP, m->trail, TRAIL, m->work,
+                                    WORK, cell, room, room_len);
+    printf("cell %" PRIu32 ": ", cell);
+    if (r.refusal != 0) {
+        print_refusal(r.refusal, r.area, r.index);
+    } else if (!r.held) {
+        printf("dead\n");
+    } else {
+        printf("held by %s %" PRIu64, areas[r.root_area], r.root_index);
+        print_words(" through", room, r.length);
+    }
+}
+
 /* How many records of each kind a file has. */
 static void count_records(const uint8_t *file, size_t length)
 {
@@ -137,6 +155,12 @@ int main(void)
     look_up(&m, 3);
     look_up(&m, BIK_STACK_BASE + 11);
     look_up(&m, BIK_STACK_BASE + STACK);
+
+    why_held(&m, 3, HEAP);
+    why_held(&m, 5, HEAP);
+    why_held(&m, 8, HEAP);
+    why_held(&m, 8, 1);    /* the chain is longer than the room */
+    why_held(&m, 9, HEAP); /* there is no such cell */
 
     collect(&m);   /* six cells stay */
     collect(&m);   /* nothing more to drop */

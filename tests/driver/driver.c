@@ -2,16 +2,16 @@
    input ends. All numbers are little-endian.
 
    A request:  the call, 4 bytes: 1 collect, 2 step back, 3 look-up, 4 thaw,
-               5 freeze, 6 record; 0 asks which of them are there
-               the address or offset, 8 bytes
-               for control, stack, heap, trail, work and the file or output:
-               the length of the whole buffer, where its lent part begins and
-               the length of that part, 4 bytes each, in words (the last of
-               the six in bytes); a buffer of length 0 is lent as NULL
-               the six whole buffers
+               5 freeze, 6 record, 7 why held; 0 asks which of them are there
+               the address, offset or heap index, 8 bytes
+               for control, stack, heap, trail, work, room and the file or
+               output: the length of the whole buffer, where its lent part
+               begins and the length of that part, 4 bytes each, in words (the
+               last of the seven in bytes); a buffer of length 0 is lent as NULL
+               the seven whole buffers
    An answer:  seven fields of 8 bytes, those of the call's struct in order and
                0 after the last; to call 0, bit n stands for call n
-               the six whole buffers as the call left them
+               the seven whole buffers as the call left them
 
    Anything else, a call that is not there and a cut request end the program
    with a line on standard error and status 1. */

@@ -94,9 +94,27 @@ static void record(const lent *given, uint64_t *fields)
 }
 #endif
 
+#ifdef WITHOUT_WHY_HELD
+#define why_held NULL
+#else
+static void why_held(const lent *given, uint64_t *fields)
+{
+    const bik_held answer =
+        bik_why_held(AREA(CONTROL), AREA(STACK), AREA(HEAP), AREA(TRAIL),
+                     AREA(WORK), (uint32_t)given->number, AREA(ROOM));
+    fields[0] = answer.refusal;
+    fields[1] = answer.area;
+    fields[2] = answer.index;
+    fields[3] = answer.held;
+    fields[4] = answer.root_area;
+    fields[5] = answer.root_index;
+    fields[6] = answer.length;
+}
+#endif
+
 /* By the numbers of the protocol, which begin at 1. */
-static service *const services[] = {NULL, collect, step_back, look_up,
-                                    thaw, freeze,  record};
+static service *const services[] = {NULL,   collect, step_back, look_up, thaw,
+                                    freeze, record,  why_held};
 
 enum { CALLS = sizeof services / sizeof *services };
 

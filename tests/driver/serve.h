@@ -6,14 +6,15 @@
 #include <stdint.h>
 
 /* The order of the buffers in a request; all but the last have words. */
-enum { CONTROL, STACK, HEAP, TRAIL, WORK, BYTES, BUFFERS };
+enum { CONTROL, STACK, HEAP, TRAIL, WORK, ROOM, BYTES, BUFFERS };
 
 /* An answer's fields in the order of its struct, 0 after the last. */
 enum { FIELDS = 7 };
 
 /* The lent part of each buffer; the guards around it are no concern here. */
 typedef struct {
-    uint64_t number; /* the address of a look-up, the offset of a record */
+    uint64_t number; /* the address of a look-up, the offset of a record, the
+                        heap index that is asked for */
     uint32_t *words[BYTES];
     uint8_t *bytes;
     size_t length[BUFFERS];

@@ -1,4 +1,5 @@
 pub mod Reasons
 pub mod Calls
+pub mod Why
 pub mod Parts
 pub mod Files

@@ -4,6 +4,7 @@ mod calls;
 mod files;
 mod parts;
 mod reasons;
+mod why;
 
 // What a collection answers.
 #[repr(C)]
@@ -24,6 +25,18 @@ pub struct BikStepped {
     pub area: u32,
     pub index: u64,
     pub undone: u64,
+}
+
+// Why a heap cell is held.
+#[repr(C)]
+pub struct BikHeld {
+    pub refusal: u32,
+    pub area: u32,
+    pub index: u64,
+    pub held: u32,
+    pub root_area: u32,
+    pub root_index: u64,
+    pub length: u64,
 }
 
 // The part of an area that an address names.

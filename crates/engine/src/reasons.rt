@@ -31,7 +31,7 @@ pub struct FileReason {
     pub offset: u64,
 }
 
-fn area_number(area: Area) -> u32
+pub fn area_number(area: Area) -> u32
     ensures { λ r. ⌜ r ≡ areaNumber area ⌝ }
 {
     match area {
@@ -43,7 +43,7 @@ fn area_number(area: Area) -> u32
 }
 
 // A refusal that has no place.
-fn placeless(number: u32) -> Reason
+pub fn placeless(number: u32) -> Reason
     ensures { λ r. ⌜ r ≡ reasonOf (refused number nowhere) ⌝ }
 {
     Reason {

@@ -37,7 +37,7 @@ sets-nothing : (i : ℕ) (text : List ℕ) → sets {A = ℕ} [] i text ≡ []
 sets-nothing i [] = refl
 sets-nothing i (b ∷ bs) = sets-nothing (suc i) bs
 
-sets-over : (output text : List ℕ) → sets output 0 text ≡ over output text
+pub sets-over : (output text : List ℕ) → sets output 0 text ≡ over output text
 sets-over output [] = ap (λ (l : List ℕ). l ++ output) (sym (take-all (length output) [] (omega arith)))
 sets-over [] (b ∷ bs) = sets-nothing 1 bs
 sets-over (o ∷ os) (b ∷ bs) = sets-later b os 0 bs ∙ ap (λ (l : List ℕ). b ∷ l) (sets-over os bs)
@@ -91,14 +91,18 @@ module _ (file : List ℕ) (lent : Image) (work : List ℕ) where
   refused-outcome files.accepted e n = absurd (n refl)
   refused-outcome (files.refused number offset) e n = badFile number offset e
 
-  -- a bad file
+  -- a bad file changes nothing
+  pub bad-left : (q : FileRefusal) (left : Image) → Thaws file lent (thawing.Refused q) left → (thawVerdict lent file ≡ files.verdictOf q) × (left ≡ lent)
+  bad-left q left t =
+      let e = refused-answer file q (t .answer) in
+      (e, t .areas ∙ ap (λ (v : files.FileVerdict). files.ifAccepted v (thawed file lent) lent) e ∙ ifAccepted-refusal {A = Image} q _ _)
+
   outcome-bad : (q : FileRefusal) (left : Image) → Thaws file lent (thawing.Refused q) left
       → Outcomes file lent work (record { text = fileVerdictText (files.verdictOf q); areas = left; work = work })
   outcome-bad q left t =
-      let e = refused-answer file q (t .answer) in
-      let same : left ≡ lent = t .areas ∙ ap (λ (v : files.FileVerdict). files.ifAccepted v (thawed file lent) lent) e ∙ ifAccepted-refusal {A = Image} q _ _ in
-      subst (λ (Z : Image). Outcomes file lent work (record { text = fileVerdictText (files.verdictOf q); areas = Z; work = work })) (sym same)
-      (refused-outcome (files.verdictOf q) e (refusal-refuses q))
+      let b = bad-left q left t in
+      subst (λ (Z : Image). Outcomes file lent work (record { text = fileVerdictText (files.verdictOf q); areas = Z; work = work })) (sym (b .1))
+      (refused-outcome (files.verdictOf q) (b .0) (refusal-refuses q))
 
   -- what was collected is what was read, with the counted front of the stack
   pub taken-is : (n : AreaCounts) (areas : Image) → Thaws file lent (thawing.Areas n) areas → justStack (n .stack) areas ≡ taken file lent

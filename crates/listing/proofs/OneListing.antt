@@ -13,7 +13,7 @@ use Rattle.freeze.specs.Verdicts as files
 use Rattle.listing.specs.Text.{fileText, refusedText, collectedText}
 use Rattle.listing.specs.Lists.{thawed, taken, joined, Outcome, Outcomes, badFile, refusedImage, collected, over, Lists}
 
-file-apart : {number offset : ℕ} → files.accepted ≡ files.refused number offset → ⊥
+pub file-apart : {number offset : ℕ} → files.accepted ≡ files.refused number offset → ⊥
 file-apart e = let z : _≡_ {A = ℕ} 0 1 = cc in omega arith
 
 apart : {number : ℕ} {place : Where} → accepted ≡ refused number place → ⊥

@@ -3,9 +3,11 @@ mod lines;
 mod numbers;
 
 use freeze::Thawed;
-use lines::put_bad_file;
+pub use lines::put_area;
+pub use lines::put_bad_file;
 use lines::put_collected;
 pub use lines::put_file;
+pub use lines::put_number_alone;
 pub use lines::put_refusal;
 use machine::Collected;
 use machine::Place;

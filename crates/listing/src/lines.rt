@@ -64,7 +64,7 @@ pub fn put_areas(
 }
 
 // A refusal that names no place.
-fn put_number_alone(output: &mut [u8], at: usize, number: usize) -> usize
+pub fn put_number_alone(output: &mut [u8], at: usize, number: usize) -> usize
     ensures { λ r. ⌜ PutsShort lineMost (now (output .entry)) at (refusedText number nowhere) r (now (output .exit)) ⌝ }
 {
     let number_at = put_bytes(output, at, b"refused");
@@ -73,7 +73,7 @@ fn put_number_alone(output: &mut [u8], at: usize, number: usize) -> usize
 }
 
 // An area's name after a space.
-fn put_area(output: &mut [u8], at: usize, area: Area) -> usize
+pub fn put_area(output: &mut [u8], at: usize, area: Area) -> usize
     ensures { λ r. ⌜ Puts (now (output .entry)) at (ascii " " ++ nameOf area) r (now (output .exit)) ⌝ }
 {
     match area {

@@ -78,7 +78,7 @@ module _ {control stack heap work : List ℕ} (k : Markable control stack heap w
   pub arguments-pushable : Pushable heap (ByArgument control heap) (take h work) 0
   arguments-pushable = pushable-part roots-pushable (argument-rooted control stack heap work)
 
-  front-clear : (x : ℕ) → Marked (take h work) x → ⊥
+  pub front-clear : (x : ℕ) → Marked (take h work) x → ⊥
   front-clear x m =
       elim (decLt x h) [
         | yes l ↦ omega (arith, getD-take h work x 0 l, k .unmarked x l)

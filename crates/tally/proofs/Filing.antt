@@ -14,11 +14,10 @@ use Rattle.freeze.specs.declared.Thawed.the-variants as thawing
 use Rattle.freeze.specs.Verdicts as files
 use Rattle.freeze.specs.Thaw.{countsOf, lengthsOf, countsIn, filled, thawVerdict, Thaws}
 use Rattle.freeze.specs.RoundTrips.{Bytes, justStack}
-use Rattle.freeze.proofs.VerdictLaws.{ifAccepted-refusal}
-use Rattle.freeze.proofs.ThawLaws.{within-each, refused-answer, accepted-answer, thaws-filled}
+use Rattle.freeze.proofs.ThawLaws.{within-each, accepted-answer, thaws-filled}
 use Rattle.freeze.proofs.WriteAgain.{counts-same}
 use Rattle.listing.specs.Lists.{thawed, taken, joined}
-use Rattle.listing.proofs.Listings.{join-back, taken-is, thawed-is, read-fits}
+use Rattle.listing.proofs.Listings.{join-back, bad-left, taken-is, thawed-is, read-fits}
 use Rattle.tally.specs.declared.Counted.{Counted}
 use Rattle.tally.specs.declared.Counted.the-variants.{Refused, BadFile}
 use Rattle.tally.specs.Parts.{CountsImage, refusedImage, counted}
@@ -27,10 +26,7 @@ use Rattle.tally.specs.Counts.{CountsFile}
 
 module _ (file : List ℕ) (lent : Image) (work : List ℕ) where
   pub file-bad : (q : FileRefusal) (left : Image) → Thaws file lent (thawing.Refused q) left → CountsFile file lent work (BadFile q) left work
-  file-bad q left t =
-      let e = refused-answer file q (t .answer) in
-      let same : left ≡ lent = t .areas ∙ ap (λ (v : files.FileVerdict). files.ifAccepted v (thawed file lent) lent) e ∙ ifAccepted-refusal {A = Image} q _ _ in
-      subst (λ (Z : Image). CountsFile file lent work (BadFile q) Z work) (sym same) (counts.badFile q e)
+  file-bad q left t = let b = bad-left file lent work q left t in subst (λ (Z : Image). CountsFile file lent work (BadFile q) Z work) (sym (b .1)) (counts.badFile q (b .0))
 
   module _ (ok : thawVerdict lent file ≡ files.accepted) where
     image-file : {r : Counted} {Y : Image} {work′ : List ℕ} → CountsImage (taken file lent) work r Y work′ → CountsFile file lent work r (joined (thawed file lent) Y) work′

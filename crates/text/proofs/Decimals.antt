@@ -126,7 +126,7 @@ ended (x ∷ l) = cons-ended x (ended l)
     cons-ended x empty = ends [] x
     cons-ended x (ends ds d) = ends (x ∷ ds) d
 
-readOn-grows : (m : ℕ) (ds : List ℕ) → m ≤ readOn m ds
+pub readOn-grows : (m : ℕ) (ds : List ℕ) → m ≤ readOn m ds
 unfolding readOn
 readOn-grows m [] = omega arith
 readOn-grows m (d ∷ ds) = omega (arith, readOn-grows (m * base + (d - zeroDigit)) ds)

@@ -7,7 +7,9 @@
 pub mod chain;
 pub mod check;
 pub mod collect;
+pub mod every_chain;
 pub mod figures;
+pub mod held;
 pub mod image;
 pub mod look_up;
 pub mod reached;
@@ -25,9 +27,11 @@ pub mod month;
 pub mod record;
 pub mod text;
 pub mod thaw;
+pub mod why;
 
-// Random images, and the comparison.
+// Random images, and the comparisons.
 pub mod antt;
 pub mod compare;
 pub mod generate;
+pub mod program;
 pub mod random;

@@ -3,6 +3,7 @@
 use crate::check::Checked;
 use crate::image::{Image, FIXED_WORDS};
 use crate::refer::refers_to;
+use crate::refusal::{Area, Place};
 
 /// For each heap cell below H whether it is reached.
 #[derive(Clone, Debug, Default, PartialEq, Eq)]
@@ -37,13 +38,26 @@ impl Reached {
     }
 }
 
+/// A cell that reaches heap cells by itself.
+#[derive(Clone, Copy, Debug, PartialEq, Eq)]
+pub struct Root {
+    pub place: Place,
+    pub word: u32,
+}
+
 /// "The saved arguments of the control area; every cell of every frame in the chain from E; the
-/// same for each choice point in the chain from B."
-pub fn roots(image: &Image, checked: &Checked) -> Vec<u32> {
+/// same for each choice point in the chain from B." Those of the control area come first, then
+/// the stack's by their index.
+pub fn roots(image: &Image, checked: &Checked) -> Vec<Root> {
+    let root = |area, index, word| Root {
+        place: Place { area, index },
+        word,
+    };
     let arguments = FIXED_WORDS..FIXED_WORDS + image.control_header().n;
-    let mut roots: Vec<u32> = image.control[arguments].to_vec();
-    roots.extend(checked.roles.cells().iter().map(|x| image.stack[*x]));
-    roots
+    let arguments = arguments.map(|x| root(Area::Control, x, image.control[x]));
+    let cells = checked.roles.cells().into_iter();
+    let cells = cells.map(|x| root(Area::Stack, x, image.stack[x]));
+    arguments.chain(cells).collect()
 }
 
 /// "A heap cell is reached if a root refers to it or a reached heap cell does."
@@ -51,7 +65,7 @@ pub fn reached(image: &Image, checked: &Checked) -> Reached {
     let h = image.control_header().h;
     let mut reached = Reached(vec![false; h]);
     for root in roots(image, checked) {
-        reached.add(&image.heap, root);
+        reached.add(&image.heap, root.word);
     }
     let mut grew = true;
     while grew {

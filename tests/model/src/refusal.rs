@@ -50,6 +50,8 @@ pub const BYTES_AFTER_END: u32 = 13;
 pub const COUNTS_DIFFER: u32 = 14;
 pub const OUTPUT_TOO_SHORT: u32 = 15;
 pub const FUNCTOR_NAMED: u32 = 17;
+pub const INDEX_AT_H: u32 = 18;
+pub const CHAIN_ABOVE_ROOM: u32 = 19;
 
 /// A refusal without a place.
 pub fn refused(number: u32) -> Refusal {

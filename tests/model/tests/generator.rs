@@ -54,6 +54,25 @@ fn assert_files(tally: &Tally) {
     }
 }
 
+fn assert_held(tally: &Tally) {
+    let all = tally.images;
+    for number in (0..=7).chain([17, 18, 19]) {
+        let name = format!("why held {number}");
+        assert_share(&name, tally.why_held.of(number), all, 3);
+    }
+    let held = &tally.held;
+    assert_share("dead", held.dead, all, 200);
+    assert_share("held by an argument", held.by_argument, all, 100);
+    assert_share("held by a frame's cell", held.by_frame_cell, all, 100);
+    assert_share("held by a saved argument", held.by_saved_argument, all, 100);
+    for (class, thousandths) in [300, 100, 10].into_iter().enumerate() {
+        let name = format!("chains, class {class}");
+        assert_share(&name, held.lengths[class], all, thousandths);
+    }
+    // Five large images, in each of which three cells or more are asked for.
+    assert!(held.large >= 15 && held.lengths[3] >= 5, "{held:?}");
+}
+
 /// The model against itself: no difference, demand 3 holds on every schedule, both round trips
 /// hold, and every answer is met.
 #[test]
@@ -61,6 +80,7 @@ fn the_model_agrees_with_itself_on_a_useful_mix() {
     let tally = run(&Model, SEED, 0..COUNT, |_| {}).expect("no difference");
     assert_images(&tally);
     assert_files(&tally);
+    assert_held(&tally);
     for steps in [1, 2, 3] {
         let name = format!("{steps} steps back");
         assert_share(&name, tally.schedules[steps], tally.images, 10);

@@ -13,6 +13,7 @@ fn lendings(random: &mut Random) -> Vec<(Call, Lending)> {
     let bytes: Vec<u8> = work.iter().map(|word| *word as u8).collect();
     let number = u64::MAX - u64::from(random.word());
     let whole = Lending::of_image(&image).with_work(&work);
+    let asked = whole.clone().with_room(&work).with_number(number);
     let heap_and_stack = Lending::of_heap_and_stack(&image).with_number(number);
     let file = Lending::nothing().with_bytes(&bytes).with_number(number);
     vec![
@@ -22,6 +23,7 @@ fn lendings(random: &mut Random) -> Vec<(Call, Lending)> {
         (Call::Thaw, Lending::of_image(&image).with_bytes(&bytes)),
         (Call::Freeze, Lending::of_image(&image).with_bytes(&[])),
         (Call::Record, file),
+        (Call::WhyHeld, asked),
     ]
 }
 
@@ -59,7 +61,7 @@ fn the_bytes_of_a_request() {
     let mut request = Vec::new();
     write_request(&mut request, Call::Record as u32, &lending);
     let mut expected = vec![6, 0, 0, 0, 2, 1, 0, 0, 0, 0, 0, 0];
-    expected.extend([0; 5 * 12]);
+    expected.extend([0; 6 * 12]);
     expected.extend([17, 0, 0, 0, 8, 0, 0, 0, 1, 0, 0, 0]);
     expected.extend([0xA5; 8]);
     expected.push(9);

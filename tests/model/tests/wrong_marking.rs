@@ -69,7 +69,7 @@ fn mark(heap: &[u32], kept: &mut Reached, word: u32) {
 fn marked(image: &Image, checked: &Checked, mark: Mark) -> Reached {
     let mut kept = Reached(vec![false; image.control_header().h]);
     for root in roots(image, checked) {
-        mark(&image.heap, &mut kept, root);
+        mark(&image.heap, &mut kept, root.word);
     }
     kept
 }

@@ -6,33 +6,36 @@
 //! `expected month` prints the report on the freeze files laid end to end on standard input.
 //! `expected month-input SEED ITEM` writes a month of the comparison, and
 //! `expected month-files SEED COUNT` one to measure, to standard output.
+//! `expected why ARGUMENT...` prints why a heap cell of the freeze file on standard input is held,
+//! and `expected why-input SEED ITEM` writes a file of the comparison to standard output, its
+//! arguments to standard error.
 
 use std::env;
+use std::ffi::OsString;
 use std::fs;
 use std::io::{self, Read, Write};
+use std::os::unix::ffi::OsStringExt;
 use std::process::ExitCode;
 
 use model::antt::antt;
 use model::freeze::file_of;
 use model::generate::month::{measured_file, month_input};
+use model::generate::why::why_input;
 use model::listing::{listing, read_image};
 use model::month::month;
 use model::text::read_four_lists;
+use model::why::why;
 
 const USAGE: &str = "usage: expected FILE... | expected freeze | expected antt COUNT SEED
-       expected month | expected month-input SEED ITEM | expected month-files SEED COUNT";
+       expected month | expected month-input SEED ITEM | expected month-files SEED COUNT
+       expected why ARGUMENT... | expected why-input SEED ITEM";
 
 fn main() -> ExitCode {
-    let given: Vec<String> = env::args().skip(1).collect();
-    let given: Vec<&str> = given.iter().map(String::as_str).collect();
-    let done = match given.as_slice() {
-        [] => Err(USAGE.to_string()),
-        ["freeze"] => write_file(),
-        ["antt", count, seed] => print_antt(count, seed),
-        ["month"] => print_month(),
-        ["month-input", seed, item] => write_month(seed, item),
-        ["month-files", seed, count] => write_files(seed, count),
-        paths => print_listings(paths),
+    let mut given = env::args_os().skip(1);
+    let done = match given.next() {
+        // Its arguments need not be text.
+        Some(word) if word == "why" => print_why(given.map(OsString::into_vec).collect()),
+        word => run(word.into_iter().chain(given).collect()),
     };
     match done {
         Ok(()) => ExitCode::SUCCESS,
@@ -40,6 +43,21 @@ fn main() -> ExitCode {
             eprintln!("{text}");
             ExitCode::from(2)
         }
+    }
+}
+
+fn run(given: Vec<OsString>) -> Result<(), String> {
+    let given = given.iter().map(|word| word.to_str().ok_or(USAGE));
+    let given: Vec<&str> = given.collect::<Result<_, _>>()?;
+    match given.as_slice() {
+        [] => Err(USAGE.to_string()),
+        ["freeze"] => write_file(),
+        ["antt", count, seed] => print_antt(count, seed),
+        ["month"] => print_month(),
+        ["month-input", seed, item] => write_month(seed, item),
+        ["month-files", seed, count] => write_files(seed, count),
+        ["why-input", seed, item] => write_why(seed, item),
+        paths => print_listings(paths),
     }
 }
 
@@ -81,6 +99,16 @@ fn write_files(seed: &str, count: &str) -> Result<(), String> {
         put(&measured_file(seed, item))?;
     }
     Ok(())
+}
+
+fn print_why(arguments: Vec<Vec<u8>>) -> Result<(), String> {
+    put(why(&arguments, &input()?).as_bytes())
+}
+
+fn write_why(seed: &str, item: &str) -> Result<(), String> {
+    let input = why_input(number(seed)?, number(item)?);
+    eprintln!("{}", input.arguments_text());
+    put(&input.file)
 }
 
 fn number(word: &str) -> Result<u64, String> {

@@ -3,6 +3,7 @@
 use super::calls::*;
 use crate::collect::{collect, Counts};
 use crate::freeze::freeze;
+use crate::held::{why_held, Chain};
 use crate::image::Image;
 use crate::look_up::look_up;
 use crate::record::{record_at, Record};
@@ -39,6 +40,28 @@ pub fn stepped(answer: Result<usize, Refusal>) -> Stepped {
         area: refused.area,
         index: refused.index,
         undone: answer.unwrap_or(0) as u64,
+    }
+}
+
+pub fn why_held_answer(answer: Result<Option<Chain>, Refusal>) -> WhyHeld {
+    match answer {
+        Ok(Some(chain)) => WhyHeld {
+            held: 1,
+            root_area: chain.root.area as u32,
+            root_index: chain.root.index as u64,
+            length: chain.cells.len() as u64,
+            ..WhyHeld::default()
+        },
+        Ok(None) => WhyHeld::default(),
+        Err(refusal) => {
+            let refused = collected(Err(refusal));
+            WhyHeld {
+                refusal: refused.refusal,
+                area: refused.area,
+                index: refused.index,
+                ..WhyHeld::default()
+            }
+        }
     }
 }
 
@@ -97,6 +120,12 @@ impl Calls for Model {
 
     fn step_back(&self, lent: Lent<'_>) -> Stepped {
         stepped(on_image(lent, step_back))
+    }
+
+    fn why_held(&self, lent: Lent<'_>, cell: u32) -> WhyHeld {
+        // The image is lent for reading only.
+        let image = lent.image();
+        why_held_answer(why_held(&image, lent.work, cell, lent.room))
     }
 
     fn look_up(&self, heap: &[u32], stack: &[u32], address: u32) -> Found {

@@ -1,4 +1,4 @@
-//! The six calls by their numbers, and their answers as rows of numbers.
+//! The seven calls by their numbers, and their answers as rows of numbers.
 
 use super::calls::*;
 
@@ -16,16 +16,18 @@ pub enum Call {
     Thaw = 4,
     Freeze = 5,
     Record = 6,
+    WhyHeld = 7,
 }
 
 impl Call {
-    pub const ALL: [Call; 6] = [
+    pub const ALL: [Call; 7] = [
         Call::Collect,
         Call::StepBack,
         Call::LookUp,
         Call::Thaw,
         Call::Freeze,
         Call::Record,
+        Call::WhyHeld,
     ];
 
     pub fn name(self) -> &'static str {
@@ -36,6 +38,7 @@ impl Call {
             Call::Thaw => "thaw",
             Call::Freeze => "freeze",
             Call::Record => "record",
+            Call::WhyHeld => "why held",
         }
     }
 
@@ -56,6 +59,15 @@ impl Call {
             Call::Thaw => &["refusal", "offset", "control", "stack", "heap", "trail"],
             Call::Freeze => &["refusal", "bytes"],
             Call::Record => &["refusal", "offset", "kind", "body", "next"],
+            Call::WhyHeld => &[
+                "refusal",
+                "area",
+                "index",
+                "held",
+                "root_area",
+                "root_index",
+                "length",
+            ],
         }
     }
 }
@@ -124,5 +136,20 @@ impl Answer for RecordRead {
     fn row(&self) -> Row {
         let (refusal, kind) = (self.refusal.into(), self.kind.into());
         row([refusal, self.offset, kind, self.body, self.next])
+    }
+}
+
+impl Answer for WhyHeld {
+    const CALL: Call = Call::WhyHeld;
+    fn row(&self) -> Row {
+        row([
+            self.refusal.into(),
+            self.area.into(),
+            self.index,
+            self.held.into(),
+            self.root_area.into(),
+            self.root_index,
+            self.length,
+        ])
     }
 }

@@ -9,6 +9,8 @@ pub struct Lent<'a> {
     pub heap: &'a mut [u32],
     pub trail: &'a mut [u32],
     pub work: &'a mut [u32],
+    /// For a chain's heap indexes; empty where a call has no use for it.
+    pub room: &'a mut [u32],
 }
 
 impl Lent<'_> {
@@ -20,6 +22,7 @@ impl Lent<'_> {
             heap: self.heap,
             trail: self.trail,
             work: self.work,
+            room: self.room,
         }
     }
 
@@ -87,6 +90,17 @@ pub struct Found {
 }
 
 #[derive(Clone, Copy, Debug, Default, PartialEq, Eq)]
+pub struct WhyHeld {
+    pub refusal: u32,
+    pub area: u32,
+    pub index: u64,
+    pub held: u32,
+    pub root_area: u32,
+    pub root_index: u64,
+    pub length: u64,
+}
+
+#[derive(Clone, Copy, Debug, Default, PartialEq, Eq)]
 pub struct Thawed {
     pub refusal: u32,
     pub offset: u64,
@@ -115,6 +129,7 @@ pub struct RecordRead {
 pub trait Calls {
     fn collect(&self, lent: Lent<'_>) -> Collected;
     fn step_back(&self, lent: Lent<'_>) -> Stepped;
+    fn why_held(&self, lent: Lent<'_>, cell: u32) -> WhyHeld;
     fn look_up(&self, heap: &[u32], stack: &[u32], address: u32) -> Found;
     /// The work of `lent` is empty and not used.
     fn thaw(&self, file: &[u8], lent: Lent<'_>) -> Thawed;

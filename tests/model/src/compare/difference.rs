@@ -3,7 +3,7 @@
 use super::asked::Asked;
 use super::call::{Call, Row};
 use super::guard::Guarded;
-use super::lending::{Lending, AREA_NAMES};
+use super::lending::{Lending, AREA_NAMES, IMAGE_AREAS};
 use crate::listing::line;
 
 /// Longer lists are not printed: the image can be made again from its seed and item.
@@ -27,9 +27,9 @@ pub fn difference(asked: &Asked<'_>, row: &Row, after: &Lending) -> String {
 pub fn lent_text(call: Call, lending: &Lending) -> String {
     let mut text = String::new();
     let has_image = !matches!(call, Call::LookUp | Call::Record);
-    for (name, area) in AREA_NAMES.iter().zip(&lending.words) {
-        if area.is_used() || (has_image && *name != "work") {
-            text += &list(name, area.area());
+    for (index, area) in lending.words.iter().enumerate() {
+        if area.is_used() || (has_image && index < IMAGE_AREAS) {
+            text += &list(AREA_NAMES[index], area.area());
         }
     }
     if lending.bytes.is_used() {
@@ -38,6 +38,7 @@ pub fn lent_text(call: Call, lending: &Lending) -> String {
     match call {
         Call::LookUp => text + &format!("address {}\n", lending.number),
         Call::Record => text + &format!("offset {}\n", lending.number),
+        Call::WhyHeld => text + &format!("cell {}\n", lending.number),
         _ => text,
     }
 }

@@ -49,7 +49,7 @@ fn note_collected(tally: &mut Tally, answer: &Collected) {
 }
 
 /// Work words of arbitrary content: just enough, more, or now and then too few.
-fn some_work(random: &mut Random, image: &Image) -> Vec<u32> {
+pub fn some_work(random: &mut Random, image: &Image) -> Vec<u32> {
     let needed = image.work_needed();
     let length = match random.below(40) {
         0 => needed.saturating_sub(1),

@@ -5,20 +5,25 @@ use super::calls::{Calls, Lent};
 use super::guard::{guarded_bytes, guarded_words, Guarded};
 use crate::image::Image;
 
-pub const AREA_NAMES: [&str; 5] = ["control", "stack", "heap", "trail", "work"];
+pub const AREAS: usize = 6;
+pub const AREA_NAMES: [&str; AREAS] = ["control", "stack", "heap", "trail", "work", "room"];
 const STACK: usize = 1;
 const HEAP: usize = 2;
 const WORK: usize = 4;
+const ROOM: usize = 5;
+
+/// The first four areas are those of an image.
+pub const IMAGE_AREAS: usize = WORK;
 
 /// The areas of one call, each between guards; an area that it does not use has none, and some
 /// empty areas have none.
 #[derive(Clone, Debug, PartialEq, Eq)]
 pub struct Lending {
     /// In the order of `AREA_NAMES`.
-    pub words: [Guarded<u32>; 5],
+    pub words: [Guarded<u32>; AREAS],
     /// The file to be read, or the output.
     pub bytes: Guarded<u8>,
-    /// The address to be looked up, or the offset of a record.
+    /// The address to be looked up, the offset of a record, or the heap index asked for.
     pub number: u64,
 }
 
@@ -54,6 +59,11 @@ impl Lending {
         self
     }
 
+    pub fn with_room(mut self, room: &[u32]) -> Lending {
+        self.words[ROOM] = guarded_words(room);
+        self
+    }
+
     pub fn with_bytes(mut self, bytes: &[u8]) -> Lending {
         self.bytes = guarded_bytes(bytes);
         self
@@ -84,19 +94,20 @@ impl Lending {
 
     /// The lent parts, to be written.
     pub fn parts(&mut self) -> (Lent<'_>, &mut [u8]) {
-        let [control, stack, heap, trail, work] = &mut self.words;
+        let [control, stack, heap, trail, work, room] = &mut self.words;
         let lent = Lent {
             control: control.area_mut(),
             stack: stack.area_mut(),
             heap: heap.area_mut(),
             trail: trail.area_mut(),
             work: work.area_mut(),
+            room: room.area_mut(),
         };
         (lent, self.bytes.area_mut())
     }
 
     pub fn image(&self) -> Image {
-        let [control, stack, heap, trail, _] = &self.words;
+        let [control, stack, heap, trail, ..] = &self.words;
         Image {
             control: control.area().to_vec(),
             stack: stack.area().to_vec(),
@@ -117,5 +128,6 @@ pub fn make(calls: &dyn Calls, call: Call, lending: &mut Lending) -> Row {
         Call::Thaw => calls.thaw(bytes, lent).row(),
         Call::Freeze => calls.freeze(lent.shown(), bytes).row(),
         Call::Record => calls.record_at(bytes, number).row(),
+        Call::WhyHeld => calls.why_held(lent, number as u32).row(),
     }
 }

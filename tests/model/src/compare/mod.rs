@@ -6,6 +6,7 @@ pub mod call;
 pub mod calls;
 pub mod difference;
 pub mod guard;
+mod holding;
 mod images;
 pub mod lending;
 mod one_call;
@@ -27,6 +28,11 @@ fn file_seed(seed: u64) -> u64 {
     !seed
 }
 
+/// And so do the cells asked for.
+fn asking_seed(seed: u64) -> u64 {
+    seed ^ 0x0DD4_0DD4_0DD4_0DD4
+}
+
 /// Compares the image and the file of each item. `begin` is called with each item before it.
 pub fn run(
     library: &dyn Library,
@@ -43,7 +49,7 @@ pub fn run(
     Ok(tally)
 }
 
-/// Compares one image and one file.
+/// Compares one image and one file, and asks for cells of the image and of others.
 fn compare_item(
     library: &dyn Library,
     seed: u64,
@@ -55,5 +61,8 @@ fn compare_item(
     images::compare_image(&mut random, library, &image, tally)?;
     let mut random = Random::for_item(file_seed(seed), item);
     let case = generate::file::file_case(&mut random);
-    thawing::compare_file(&mut random, library, &case, tally)
+    thawing::compare_file(&mut random, library, &case, tally)?;
+    let mut random = Random::for_item(asking_seed(seed), item);
+    holding::compare_held(&mut random, library, &image, tally)?;
+    holding::compare_others(&mut random, library, item, tally)
 }

@@ -57,6 +57,19 @@ pub fn compare_step_back(
     both(library, lending, |lent, _| Model.step_back(lent))
 }
 
+/// Asks why a heap cell is held.
+pub fn compare_why_held(
+    library: &dyn Library,
+    image: &Image,
+    work: &[u32],
+    cell: u32,
+    room: &[u32],
+) -> Compared<Outcome<WhyHeld>> {
+    let lending = Lending::of_image(image).with_work(work).with_room(room);
+    let lending = lending.with_number(cell.into());
+    both(library, lending, |lent, _| Model.why_held(lent, cell))
+}
+
 pub fn compare_look_up(library: &dyn Library, image: &Image, address: u32) -> Compared<()> {
     let lending = Lending::of_heap_and_stack(image).with_number(address.into());
     both(library, lending, |lent, _| {

@@ -1,13 +1,14 @@
 //! Calls and answers as the driver's protocol has them; all numbers are little-endian.
 //!
-//! A request is the call's number (4 bytes), its address or offset (8), then for control, stack,
-//! heap, trail, work and the bytes three numbers of 4 bytes each, the length of the whole buffer,
-//! where the lent part begins and its length, and then the six buffers. An answer is seven
-//! numbers of 8 bytes, the fields in their order and 0 after the last, and the six buffers.
+//! A request is the call's number (4 bytes), its address, offset or heap index (8), then for
+//! control, stack, heap, trail, work, room and the bytes three numbers of 4 bytes each, the length
+//! of the whole buffer, where the lent part begins and its length, and then the seven buffers. An
+//! answer is seven numbers of 8 bytes, the fields in their order and 0 after the last, and the
+//! seven buffers.
 
 use super::call::{Call, Row, MOST_FIELDS};
 use super::guard::{guarded_bytes, guarded_words, Guarded};
-use super::lending::Lending;
+use super::lending::{Lending, AREAS};
 
 /// The request that asks which calls are there; bit n of the first field stands for call n.
 pub const WHAT_IS_THERE: u32 = 0;
@@ -56,7 +57,7 @@ pub fn read_request(mut from: &[u8]) -> (Call, Lending) {
     let number = read_word(&mut from);
     let call = Call::ALL.into_iter().find(|call| *call as u32 == number);
     let mut lending = Lending::nothing().with_number(read_number(&mut from));
-    let lengths: [_; 6] = std::array::from_fn(|_| {
+    let lengths: [_; AREAS + 1] = std::array::from_fn(|_| {
         let [_, row, length] = std::array::from_fn(|_| read_word(&mut from) as usize);
         (row > 0, length)
     });
@@ -65,7 +66,7 @@ pub fn read_request(mut from: &[u8]) -> (Call, Lending) {
             *area = guarded_words(&vec![0; length]);
         }
     }
-    let (used, length) = lengths[5];
+    let (used, length) = lengths[AREAS];
     if used {
         lending.bytes = guarded_bytes(&vec![0; length]);
     }

@@ -140,6 +140,8 @@ pub fn misenter(random: &mut Random, image: &mut Image) {
     let index = random.below(t);
     let length = image.stack.len();
     let some_word = random.below(length);
+    // H may be miscounted already.
+    let cells = control.h.min(image.heap.len());
     let fields = spots.roles.with_a_role();
     let fields: Vec<usize> = fields
         .into_iter()
@@ -152,7 +154,7 @@ pub fn misenter(random: &mut Random, image: &mut Image) {
         4 => stack_address((length + random.below(3)).saturating_sub(1)),
         // Cut to 28 bits these would be legal.
         5 => VALUE_LIMIT + stack_address(some_word),
-        6 => VALUE_LIMIT + random.below(control.h) as u32,
+        6 => VALUE_LIMIT + random.below(cells) as u32,
         _ => stack_address(random.maybe_one_of(&fields).unwrap_or(length)),
     };
 }

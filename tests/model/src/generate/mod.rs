@@ -6,13 +6,17 @@ mod damage_cells;
 mod damage_chain;
 mod damage_functor;
 pub mod file;
+pub mod large;
 mod layout;
 pub mod month;
+mod short;
 mod sizes;
 mod sound;
 mod spot;
 mod terms;
 mod trail;
+pub mod why;
+mod woven;
 
 pub use sound::sound_image;
 
@@ -56,4 +60,17 @@ pub fn tiny_image(random: &mut Random) -> Image {
 pub fn any_sound_image(random: &mut Random) -> Image {
     let sizes = sizes::draw(random);
     sound_image(random, &sizes)
+}
+
+/// A sound image of long chains, many of them equally long.
+pub fn woven_image(random: &mut Random) -> Image {
+    let sizes = random.one_of(&[sizes::TINY, sizes::SMALL]);
+    let (rows, widest) = (random.between(1, 30), random.between(1, 6));
+    woven::woven_image(random, &sizes, rows, widest)
+}
+
+/// Such an image with few cells.
+pub fn tiny_woven_image(random: &mut Random) -> Image {
+    let (rows, widest) = (random.between(1, 5), random.between(1, 3));
+    woven::woven_image(random, &sizes::TINY, rows, widest)
 }

@@ -39,7 +39,7 @@ pub fn measured_file(seed: u64, number: u64) -> Vec<u8> {
 }
 
 /// The file of an image that the listing program has room for; `damaged` of a hundred are so.
-fn some_file(random: &mut Random, sizes: &Sizes, damaged: usize) -> Vec<u8> {
+pub fn some_file(random: &mut Random, sizes: &Sizes, damaged: usize) -> Vec<u8> {
     loop {
         let mut image = sound_image(random, sizes);
         if random.percent(damaged) {
@@ -109,7 +109,7 @@ fn some_month(random: &mut Random) -> Vec<u8> {
 }
 
 /// A file that is refused, in most cases.
-fn bad_file(random: &mut Random) -> Vec<u8> {
+pub fn bad_file(random: &mut Random) -> Vec<u8> {
     let mut lists = cut_to_counts(sound_image(random, &TINY));
     match random.below(5) {
         0 => misstate(random, &mut lists),

@@ -22,7 +22,7 @@ pub const TINY: Sizes = Sizes {
     arguments: 2,
 };
 
-const SMALL: Sizes = Sizes {
+pub const SMALL: Sizes = Sizes {
     stack: 60,
     heap: 40,
     trail: 16,

@@ -23,6 +23,9 @@ where
     fn step_back(&self, lent: Lent<'_>) -> Stepped {
         (self.step_back)(lent)
     }
+    fn why_held(&self, lent: Lent<'_>, cell: u32) -> WhyHeld {
+        Model.why_held(lent, cell)
+    }
     fn look_up(&self, heap: &[u32], stack: &[u32], address: u32) -> Found {
         Model.look_up(heap, stack, address)
     }

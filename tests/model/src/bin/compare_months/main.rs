@@ -7,44 +7,18 @@
 //! After `--` comes the program's command.
 
 mod met;
-mod program;
 
-use std::env;
-use std::ops::Range;
 use std::process::ExitCode;
 
 use met::Met;
-use model::generate::month::month_input;
+use model::generate::month::{month_input, FULL_MONTHS};
 use model::month::read_month;
-use program::Running;
+use model::program::arguments::{arguments, Arguments};
+use model::program::{difference, Feed, Running};
+use model::random::Random;
 
-const FIXED_SEED: u64 = 1;
 const FIXED_COUNT: u64 = 200;
 const USAGE: &str = "usage: compare_months [SEED COUNT [FIRST]] -- PROGRAM...";
-
-struct Arguments {
-    seed: u64,
-    items: Range<u64>,
-    program: Vec<String>,
-}
-
-fn arguments() -> Option<Arguments> {
-    let mut given = env::args().skip(1);
-    let numbers = given.by_ref().take_while(|word| word != "--");
-    let numbers: Result<Vec<u64>, _> = numbers.map(|number| number.parse()).collect();
-    let (seed, items) = match numbers.ok()?[..] {
-        [] => (FIXED_SEED, 0..FIXED_COUNT),
-        [seed, count] => (seed, 0..count),
-        [seed, count, first] => (seed, first..first.checked_add(count)?),
-        _ => return None,
-    };
-    let program: Vec<String> = given.collect();
-    (!program.is_empty()).then_some(Arguments {
-        seed,
-        items,
-        program,
-    })
-}
 
 /// Compares all months and gives the text of what was met.
 fn compare(arguments: &Arguments) -> Result<String, String> {
@@ -63,7 +37,7 @@ fn compare(arguments: &Arguments) -> Result<String, String> {
 
 fn compare_item(program: &[String], seed: u64, item: u64, met: &mut Met) -> Result<(), String> {
     let input = month_input(seed, item);
-    let running = Running::start(program, &input, item)?;
+    let running = Running::start(program, &[], &input, some_feed(item), item)?;
     // The program runs while the model counts.
     let month = read_month(&input);
     let expected = month.text();
@@ -75,26 +49,19 @@ fn compare_item(program: &[String], seed: u64, item: u64, met: &mut Met) -> Resu
     Ok(())
 }
 
-/// The first line that differs, as the model has it and as it was found.
-fn difference(expected: &str, found: &[u8]) -> String {
-    let found = String::from_utf8_lossy(found);
-    let mut lines = 1;
-    let (mut ours, mut theirs) = (expected.split('\n'), found.split('\n'));
-    loop {
-        match (ours.next(), theirs.next()) {
-            (Some(one), Some(other)) if one == other => lines += 1,
-            (one, other) => {
-                let (one, other) = (one.unwrap_or(""), other.unwrap_or(""));
-                return format!(
-                    "the reports differ in line {lines}\nmodel   {one}\nprogram {other}"
-                );
-            }
-        }
+fn some_feed(item: u64) -> Feed {
+    let random = &mut Random::new(item);
+    let most = random.one_of(&[3, 20, 300, 5000, 70_000]);
+    match random.below(3) {
+        _ if item < FULL_MONTHS => Feed::Whole,
+        0 => Feed::Whole,
+        1 => Feed::Pieces(most.max(300)),
+        _ => Feed::Paused(most),
     }
 }
 
 fn main() -> ExitCode {
-    let Some(arguments) = arguments() else {
+    let Some(arguments) = arguments(FIXED_COUNT) else {
         eprintln!("{USAGE}");
         return ExitCode::from(2);
     };

@@ -1,0 +1,9 @@
+pub mod Levels
+pub mod Seeks
+pub mod Tracing
+pub mod Holding
+pub mod Paths
+pub mod Roots
+pub mod Explaining
+pub mod Promising
+pub mod Unique

@@ -1,0 +1,9 @@
+pub mod Orders
+pub mod Sources
+pub mod Paths
+pub mod Lines
+pub mod Bests
+pub mod Levels
+pub mod Chains
+pub mod Roots
+pub mod Searches

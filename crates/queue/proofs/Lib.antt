@@ -1,0 +1,9 @@
+pub mod Words
+pub mod Puts
+pub mod Entering
+pub mod Below
+pub mod Reading
+pub mod Turns
+pub mod Levels
+pub mod Following
+pub mod Filling

@@ -1,0 +1,9 @@
+pub mod Numbers
+pub mod Cells
+pub mod Owning
+pub mod Firsts
+pub mod Rooting
+pub mod Answering
+pub mod Tellings
+pub mod OneTelling
+pub mod Examples
