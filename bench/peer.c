@@ -49,11 +49,7 @@ static verdict admit(image *m)
     m->roles = m->work + m->heap_len;
     if (bad_counts(m))
         return (verdict){2, PEER_NOWHERE, 0};
-    verdict found = {0, PEER_NOWHERE, 0};
-    if (!walk_chains(m))
-        found.refusal = 3;
-    else if (m->conflict)
-        found.refusal = 4;
+    verdict found = check_chains(m);
     if (!found.refusal)
         found = check_cells(m);
     if (!found.refusal)

@@ -7,8 +7,8 @@
 #include <stddef.h>
 #include <stdint.h>
 
-/* Where a refused image has its fault. Only refusals 5, 6, 7
-   and 17 name one. */
+/* Where a refused image has its fault. Only refusals 3 to 7 and 17 name one;
+   that of 3 may lie outside the stack. */
 enum peer_area {
     PEER_NOWHERE = 0,
     PEER_HEAP = 1,

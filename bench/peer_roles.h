@@ -1,5 +1,6 @@
 /* Refusals 3 and 4: walks the chains once and leaves the role of every stack
-   word in its work word. */
+   word in its work word. Which word is lowest in conflict is looked for only
+   when one is. */
 #ifndef PEER_ROLES_H
 #define PEER_ROLES_H
 
@@ -29,7 +30,7 @@ static inline void take_fields(image *m, uint32_t *role, uint32_t first,
 /* Takes the frame at e as seen with this size; answers whether it was seen
    before. Of a frame seen before only the cells past the largest size are new,
    so all views together cost each word once. After a conflict no more cells
-   are taken: 4 is certain unless the walk finds 3. */
+   are taken, for 4 is certain unless the walk finds 3; sizes are still noted. */
 static inline int take_view(image *m, uint32_t e, uint32_t size)
 {
     uint32_t *role = m->roles + e;
@@ -37,28 +38,32 @@ static inline int take_view(image *m, uint32_t e, uint32_t size)
     const uint32_t known = seen ? role[CL] >> NOTE_SHIFT & NOTE_MASK : 0;
     if (!seen)
         take_fields(m, role, FIELD_CL, FRAME_FIXED);
-    if (size > known && !m->conflict) {
-        role[CL] = FIELD_CL | size << NOTE_SHIFT;
-        take_cells(m, role + FRAME_FIXED + known, size - known);
+    if (size > known) {
+        role[CL] &= ~(NOTE_MASK << NOTE_SHIFT);
+        role[CL] |= size << NOTE_SHIFT;
+        if (!m->conflict)
+            take_cells(m, role + FRAME_FIXED + known, size - known);
     }
     return seen;
 }
 
-/* Answers whether the chain from e holds. CL and CE stand in the frame, so the
-   chain behind a frame seen before was walked with the same sizes. */
-static int walk_frames(image *m, uint32_t e, uint32_t size_word, uint64_t end)
+/* Answers the frame at which the chain from e is broken, or NONE. CL and CE
+   stand in the frame, so the chain behind a frame seen before was walked with
+   the same sizes. */
+static uint32_t walk_frames(image *m, uint32_t e, uint32_t size_word,
+                            uint64_t end)
 {
     while (e != NONE) {
         const uint32_t size = size_word % SIZE_END;
         if ((uint64_t)e + FRAME_FIXED + size > end)
-            return 0;
+            return e;
         if (take_view(m, e, size))
-            return 1;
+            return NONE;
         size_word = m->stack[e + CL];
         end = e;
         e = m->stack[e + CE];
     }
-    return 1;
+    return NONE;
 }
 
 /* Answers whether the choice point at b ends at or below end and its
@@ -74,18 +79,19 @@ static inline int stands(const image *m, uint32_t b, uint64_t end,
            point[H] <= newer[H];
 }
 
-/* Answers whether all chains hold. Leaves the way back from the oldest choice
-   point to the newest in the P words' notes. */
-static int walk_chains(image *m)
+/* Answers the first frame or choice point at fault, or NONE: the control's
+   frames, then from the newest each choice point and after it its frames. Leaves
+   the way back from the oldest choice point to the newest in the P words' notes.
+   */
+static uint32_t walk_chains(image *m)
 {
     uint64_t end = m->stack_len;
     const uint32_t *newer = m->control;
     uint32_t note = 0;
-    if (!walk_frames(m, newer[E], newer[L], end))
-        return 0;
-    for (uint32_t b = newer[B]; b != NONE; b = newer[B]) {
+    uint32_t broken = walk_frames(m, newer[E], newer[L], end);
+    for (uint32_t b = newer[B]; broken == NONE && b != NONE; b = newer[B]) {
         if (!stands(m, b, end, newer))
-            return 0;
+            return b;
         newer = m->stack + b;
         take_fields(m, m->roles + b, FIELD_P, FIXED);
         if (!m->conflict)
@@ -94,10 +100,44 @@ static int walk_chains(image *m)
         m->oldest = b;
         note = b + 1;
         end = b;
-        if (!walk_frames(m, newer[E], newer[L], end))
-            return 0;
+        broken = walk_frames(m, newer[E], newer[L], end);
     }
-    return 1;
+    return broken;
+}
+
+/* The end of the frame or choice point whose first word, with this role, is at
+   i. */
+static inline uint64_t end_of(const image *m, uint64_t i, uint32_t role)
+{
+    if (role & FIELD_P)
+        return i + FIXED + m->stack[i + N];
+    return i + FRAME_FIXED + (role >> NOTE_SHIFT & NOTE_MASK);
+}
+
+/* The lowest word that two frames or choice points have is the first word of
+   the higher one: below it the lower one is alone. So only first words are
+   asked. Some word is in conflict, and the end of the stack is no answer. */
+static uint64_t lowest_conflict(const image *m)
+{
+    uint64_t end = 0;
+    for (uint64_t i = 0; i < m->stack_len; i++) {
+        const uint32_t role = m->roles[i], first = role & (FIELD_CL | FIELD_P);
+        if (first && (i < end || first == (FIELD_CL | FIELD_P)))
+            return i;
+        if (first)
+            end = end_of(m, i, role);
+    }
+    return m->stack_len;
+}
+
+static verdict check_chains(image *m)
+{
+    const uint32_t broken = walk_chains(m);
+    if (broken != NONE)
+        return (verdict){3, PEER_STACK, broken};
+    if (m->conflict)
+        return (verdict){4, PEER_STACK, lowest_conflict(m)};
+    return (verdict){0, PEER_NOWHERE, 0};
 }
 
 #endif

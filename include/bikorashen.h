@@ -84,14 +84,15 @@
  *       thaw, freeze        the same, no work being needed
  *    2  collect, step back, T is above the trail's length, H above the heap's,
  *       freeze              or 7 + n above the control area's
- *    3  collect, step back  a chain is broken: a frame does not end at or below
- *                           the stack's length (for E), its choice point (for a
- *                           choice point's E) or the frame that continues to it
- *                           (for CE); a choice point has n above 255 or does not
- *                           end at or below the stack's length or the newer
- *                           one; or its T or H is above the newer one's
+ *    3  collect, step back  a chain is broken                      (has a place):
+ *                           a frame does not end at or below the stack's
+ *                           length (for E), its choice point (for a choice
+ *                           point's E) or the frame that continues to it (for
+ *                           CE); a choice point has n above 255 or does not end
+ *                           at or below the stack's length or the newer one; or
+ *                           its T or H is above the newer one's
  *    4  collect, step back  a stack word would have two different roles, or be
- *                           two different fields
+ *                           two different fields                   (has a place)
  *    5  collect, step back  a cell has m or f set                  (has a place)
  *    6  collect, step back  a cell refers wrongly                  (has a place):
  *                           a cell must refer to heap cells below H, to both of
@@ -123,6 +124,12 @@
  *   14  thaw                the counts are not those of the file's own control
  *                           words, or fewer than 7 control words    (offset 0)
  *   15  freeze              the output is shorter than the file
+ *
+ * For 3 the place is that of the first frame or choice point at fault: the
+ * control area's frames come first, then from the newest each choice point and
+ * after it its frames. It is the stack index where the frame or choice point
+ * begins, as E, CE or B holds it, so it may lie outside the stack (up to
+ * 4294967294). For 4 it is the lowest stack word in conflict.
  *
  * For 5, 6 and 17 heap, stack and control are tried in this order, for 17 then
  * the trail, and the lowest index is given; all cells of the heap below H count,
@@ -159,7 +166,7 @@ enum {
 /* What a collection answers. */
 typedef struct {
     uint32_t refusal;         /* 0: collected; else 1 to 7 or 17 */
-    uint32_t area;            /* of the place, for 5, 6, 7 and 17; else 0 */
+    uint32_t area;            /* of the place, for 3 to 7 and 17; else 0 */
     uint64_t index;           /* of the place, in that area; else 0 */
     uint64_t cells_kept;      /* heap cells below the old H that stay: the new H */
     uint64_t cells_dropped;   /* heap cells below the old H that go */
@@ -185,7 +192,7 @@ bik_collected bik_collect(uint32_t *control, size_t control_len,
 /* What a step back answers. */
 typedef struct {
     uint32_t refusal; /* 0: stepped back; else 1 to 9 or 17 */
-    uint32_t area;    /* of the place, for 5, 6, 7 and 17; else 0 */
+    uint32_t area;    /* of the place, for 3 to 7 and 17; else 0 */
     uint64_t index;   /* of the place, in that area; else 0 */
     uint64_t undone;  /* trail entries undone, equal ones counted each */
 } bik_stepped;
@@ -205,7 +212,7 @@ bik_stepped bik_step_back(uint32_t *control, size_t control_len,
 /* Why a heap cell is held. */
 typedef struct {
     uint32_t refusal;    /* 0: held or dead; else 1 to 7, 17, 18 or 19 */
-    uint32_t area;       /* of the place, for 5, 6, 7 and 17; else 0 */
+    uint32_t area;       /* of the place, for 3 to 7 and 17; else 0 */
     uint64_t index;      /* of the place, in that area; else 0 */
     uint32_t held;       /* 1: held; 0: dead, or refused */
     uint32_t root_area;  /* held: where the root stands, BIK_STACK or BIK_CONTROL */

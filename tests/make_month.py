@@ -59,6 +59,8 @@ add('refused_each', *REFUSED)
 add('refused_between', 'entry_at_h', night_a, 'reference_in_heap', 'reference_in_stack', night_a, 'bit_in_control', 'frame_its_own_parent', 'night_a_collected',
     'two_frames_overlap', 'nothing_in_it', 'choice_point_t_above')
 add('refused_last', night_a, 'night_a_entry_9')
+add('refused_3_and_4', night_a, 'newer_frame_at_500_and_older_t_above', 'two_conflicts', 'chains_whole', 'frame_in_an_empty_stack',
+    'frame_broken_only_in_its_older_view', 'two_conflicts_and_a_broken_chain', night_a)
 add('refused_17', night_a, 'structures_overlap', 'functor_not_named', 'functor_named_of_a_dead_struct')
 
 # files that end early

@@ -92,10 +92,56 @@ add('choice_point_h_above', tiny([], [k(1)], stack=header(0, NONE, NONE, 0, 2), 
 add('choice_points_t_and_h_equal', tiny([v(0)], [k(1), k(2)], stack=header(0, NONE, NONE, 1, 1) + header(0, NONE, 0, 1, 1), b=7, trail=[0]))
 add('choice_points_t_and_h_fall', tiny([v(0)], [k(1), k(2)], stack=header(0, NONE, NONE, 1, 2) + header(0, NONE, 0, 0, 1), b=7, trail=[0]))
 
+# refusal 3: which of several faults is named. The old frame at 2, b2 at 4, the middle frame at 11, b1 at 13, the control's frame of one cell at 20
+CHAINS = dict(
+    control=header(1, 20, 13, 1, 1),
+    stack=[9, 9, 0, NONE] + header(0, 2, NONE, 1, 1) + [0, 2] + header(0, 11, 4, 1, 1) + [0, 11, v(0)])
+
+
+def chains(e=20, size=1, b=13, **words):
+    # the words are changed by name: b1_t is b1's T, middle_ce the middle frame's CE
+    starts = dict(old=2, b2=4, middle=11, b1=13, frame=20)
+    fields = dict(cl=0, ce=1, l=1, e=2, b=3, t=4, h=5, n=6)
+    stack = list(CHAINS['stack'])
+    for name, word in words.items():
+        start, field = name.split('_')
+        stack[starts[start] + fields[field]] = word
+    return image([1, size, e, b] + CHAINS['control'][4:], stack, [k(1)], [0])
+
+
+add('chains_whole', chains())
+add('newer_frame_at_500_and_older_t_above', chains(b1_e=500, b2_t=2))
+add('control_frame_and_newest_t_above', chains(e=500, b1_t=2))
+add('control_second_frame_and_newest_n_256', chains(frame_ce=600, b1_n=256))
+add('newest_h_above_and_its_frame', chains(b1_h=2, b1_e=500))
+add('newest_and_older_t_above', chains(b1_t=2, b2_t=3))
+add('older_h_above', chains(b2_h=2))
+add('older_n_t_and_h_wrong_and_its_frame', chains(b2_n=300, b2_t=2, b2_h=2, b2_e=500))
+add('older_frame_at_the_far_end', chains(b2_e=4294967294))
+add('older_frame_too_long', chains(b2_l=1))
+add('middle_frame_its_own_parent', chains(middle_ce=11))
+add('choice_point_its_own_frame', chains(b1_e=13))
+add('older_choice_point_its_own_parent', chains(b2_b=4))
+add('older_choice_point_at_the_stack', chains(b1_b=23))
+add('frame_at_the_stack', chains(e=23))
+add('frame_seen_before_then_too_long', chains(b1_e=2, b1_l=10))
+add('frame_seen_before_then_too_long_for_the_child', chains(e=2, size=0, middle_cl=8))
+add('frame_broken_only_in_its_older_view', chains(b1_e=20, b1_l=1))
+add('choice_point_past_the_far_end', tiny([], [], b=4294967294))
+add('frame_and_choice_point_past_the_far_end', tiny([], [], e=4294967293, b=4294967294))
+
 # refusal 4: two roles
 add('two_frames_overlap', image(header(2, 0, 5, 0, 1), [0, NONE, v(0), NONE, 0] + header(0, 2, NONE, 0, 1), [k(1)], []))
 add('frame_over_choice_point', tiny([], [k(1)], stack=[0, NONE] + header(0, NONE, NONE, 0, 1), e=0, size=1, b=2))
 add('frame_beside_choice_point', tiny([], [k(1)], stack=[0, NONE] + header(0, NONE, NONE, 0, 1), e=0, size=0, b=2))
+add('frame_over_two_choice_points', chains(e=2, size=19))
+add('frame_seen_small_then_over_choice_point', chains(b1_e=2, b1_l=9))
+add('frame_at_a_choice_point', tiny([], [], stack=header(NONE, NONE, NONE, 0, 0), e=0, b=0))
+# the control's frames at 21 and 2 stand on b1's saved arguments and on cells of b2's frame
+TWICE = [0, NONE, k(6), NONE, k(7)] + header(3, 0, NONE, 0, 0, [k(1), k(2)]) + header(0, NONE, 5, 0, 0, [0, 2, k(5)])
+add('two_conflicts', tiny([], [], stack=TWICE, e=21, b=14))
+add('two_conflicts_the_upper_alone', tiny([], [], stack=TWICE[:22] + [NONE, k(5)], e=21, b=14))
+add('two_conflicts_and_a_broken_chain', tiny([], [], stack=TWICE[:7] + [700] + TWICE[8:], e=21, b=14))
 
 # refusal 5: bits, in each area that can be named, and before any 6
 add('bit_in_heap', tiny([v(0)], [k(1), k(2) + 1, k(3) + 2]))

@@ -9,24 +9,26 @@ use native.Mathlib.Omega.{arith}
 use borrow.Author.Tests.{eq-eqb, eqb-true, ltb-true, lt-ltb}
 use lib.ListN.{length, getD, drop, replicate, length-replicate, getD-replicate, List·getD-append}
 use lib.Seq.{drop-at}
+use Rattle.machine.specs.declared.Area.the-variants.{Stack}
+use Rattle.machine.specs.declared.Place.{Place}
 use Rattle.machine.specs.declared.Refusal.{Refusal}
 use Rattle.machine.specs.declared.Refusal.the-variants.{Sizes, Registers, Chain, Roles}
-use Rattle.machine.specs.Layout.{Image}
-use Rattle.machine.specs.Chains.{Fault, whole, broken, walk, faultOf}
+use Rattle.machine.specs.Layout.{Image, none}
+use Rattle.machine.specs.Chains.{whole, walk, faultOf}
 use Rattle.machine.specs.Roles.{Role, cell, CL, CE, own, codeOf, isCell, isField, conflict, noteAt}
-use Rattle.machine.specs.Refusals.{refused, nowhere, scan, firstOf, workWords, enough, fits, chainCheck, cellChecks, entryChecks, firstChecks, imageChecks, verdict}
+use Rattle.machine.specs.Refusals.{nowhere, inArea, refused, first, scan, firstOf, workWords, enough, fits, chainCheck, cellChecks, entryChecks, firstChecks, imageChecks, verdict}
 use Rattle.machine.specs.Answers.{verdictOf, workAfter}
 use Rattle.machine.proofs.Tests.{same-bool}
 use Rattle.machine.proofs.Chains.{role-low}
 use Rattle.machine.proofs.Walks.{whole-linked}
 use Rattle.machine.proofs.Roles.{has-is, is-has, field-iff}
-use Rattle.machine.proofs.Firsts.{first-skips, passes-gate, refuses-gate, refused-not, scan-any, scan-passes, first-given}
+use Rattle.machine.proofs.Firsts.{first-same, first-before, first-skips, passes-gate, refuses-gate, refused-not, scan-passes, scan-first, first-given}
 use Rattle.machine.proofs.Checks.{enough-iff, fits-iff}
 use Rattle.machine.proofs.Injective.{refusal-refuses}
 use Rattle.machine.proofs.Works.{clearedTo, uses-all, lent-cleared}
 use Rattle.machine.proofs.Parts.{front-at}
-use Rattle.chains.specs.Notes.{several, Walks, Noted}
-use Rattle.chains.proofs.Conflicts.{noted-of-walk, conflict-of-walk, apart-of-walk}
+use Rattle.chains.specs.Notes.{severalAt, Walks, Noted}
+use Rattle.chains.proofs.Conflicts.{noted-of-walk, conflict-noted}
 use Rattle.cells.specs.declared.Checked.{Checked}
 use Rattle.cells.specs.declared.Checked.the-variants.{Passed, Refused}
 use Rattle.cells.specs.Cells.{checkedTo, notesCell, notesField, Right}
@@ -67,6 +69,9 @@ module _ {X : Image} {work : List ℕ} {notes : ℕ} (w : faultOf X (walk X) ≡
 
 -- ---- the image
 
+abbrev pub onStack : ℕ → Place
+onStack i = record { area = Stack; index = i }
+
 module _ (X : Image) (work : List ℕ) where
   -- what a failed check leaves
   stopped : (r : Refusal) {work′ : List ℕ} → verdictOf r ≡ firstOf (imageChecks X) → drop (workWords X) work′ ≡ drop (workWords X) work → length work′ ≡ length work → ChecksImage X work (Refused r) work′
@@ -78,29 +83,33 @@ module _ (X : Image) (work : List ℕ) where
   registers-stop f = stopped Registers (sym (first-given _ _ (refuses-gate _ _ f))) refl refl
 
   module _ (f : fits X ≡ true) (work′ : List ℕ) where
-    registers-pass : firstOf (imageChecks X) ≡ firstOf (chainCheck (faultOf X (walk X)) ∷ scan (conflict X) (length (X .stack)) (λ i. refused 4 nowhere) ∷ cellChecks X (entryChecks X (firstChecks X)))
+    registers-pass : firstOf (imageChecks X) ≡ firstOf (chainCheck (faultOf X (walk X)) ∷ scan (conflict X) (length (X .stack)) (λ i. refused 4 (inArea Stack i)) ∷ cellChecks X (entryChecks X (firstChecks X)))
     registers-pass = first-skips _ _ (passes-gate _ _ f)
 
-    not-whole : (g : Fault) → g ≢ whole → chainCheck g ≡ refused 3 nowhere
-    not-whole whole n = absurd (n refl)
-    not-whole (broken i) n = refl
-
-    pub chain-stop : Walks X work (length (X .heap)) false work′ → ChecksImage X work (Refused Chain) work′
+    pub chain-stop : {i : ℕ} → Walks X work (length (X .heap)) i work′ → i ≢ none → ChecksImage X work (Refused (Chain (onStack i))) work′
     unfolding verdictOf
-    chain-stop w =
-        stopped Chain (sym (registers-pass ∙ first-given _ _ (not-whole (faultOf X (walk X)) (w .broken refl)))) (w .after) (w .same)
+    chain-stop {i} w n =
+        stopped (Chain (onStack i)) (sym (registers-pass ∙ first-given _ _ (ap chainCheck (w .stopped n)))) (w .after) (w .same)
 
-    module _ (w : Walks X work (length (X .heap)) true work′) where
-      chain-pass : firstOf (imageChecks X) ≡ firstOf (scan (conflict X) (length (X .stack)) (λ i. refused 4 nowhere) ∷ cellChecks X (entryChecks X (firstChecks X)))
+    module _ (w : Walks X work (length (X .heap)) none work′) where
+      chain-pass : firstOf (imageChecks X) ≡ firstOf (scan (conflict X) (length (X .stack)) (λ i. refused 4 (inArea Stack i)) ∷ cellChecks X (entryChecks X (firstChecks X)))
       chain-pass = registers-pass ∙ first-skips _ _ (ap chainCheck (w .noted refl .0))
 
-      pub roles-stop : (i : ℕ) → i < length (X .stack) → several ≤ noteAt work′ (length (X .heap)) i → ChecksImage X work (Refused Roles) work′
-      unfolding verdictOf
-      roles-stop i l m =
-          let c = scan-any (conflict X) (length (X .stack)) (refused 4 nowhere) i l (conflict-of-walk X work′ (length (X .heap)) (w .noted refl) i l m) in
-          stopped Roles (sym (chain-pass ∙ first-given _ _ c)) (w .after) (w .same)
+      -- the notes of several roles are those of the words in conflict
+      conflicts : (i : ℕ) → i < length (X .stack) → severalAt work′ (length (X .heap)) i ≡ conflict X i
+      conflicts = conflict-noted X work′ (length (X .heap)) (w .noted refl)
 
-      module _ (few : (i : ℕ) → i < length (X .stack) → noteAt work′ (length (X .heap)) i < several) where
+      module _ {i : ℕ} (q : i ≡ first (severalAt work′ (length (X .heap))) 0 (length (X .stack))) where
+        pub roles-stop : i < length (X .stack) → ChecksImage X work (Refused (Roles (onStack i))) work′
+        unfolding verdictOf
+        roles-stop l =
+            let e = sym (q ∙ first-same _ (conflict X) 0 (length (X .stack)) (λ j a b. conflicts j (omega arith))) in
+            stopped (Roles (onStack i)) (sym (chain-pass ∙ first-given _ _ (scan-first (conflict X) (length (X .stack)) (λ j. refused 4 (inArea Stack j)) i e l))) (w .after) (w .same)
+
+      module _ {i : ℕ} (q : i ≡ first (severalAt work′ (length (X .heap))) 0 (length (X .stack))) (high : length (X .stack) ≤ i) where
+        few : (j : ℕ) → j < length (X .stack) → severalAt work′ (length (X .heap)) j ≡ false
+        few j l = first-before (severalAt work′ (length (X .heap))) 0 (length (X .stack)) j (omega arith) (omega (arith, q))
+
         pub noted : Noted X work′ (length (X .heap))
         noted = noted-of-walk X work′ (length (X .heap)) (w .noted refl) few
 
@@ -119,7 +128,7 @@ module _ (X : Image) (work : List ℕ) where
         pub noted-checked : {r : Checked} {work″ : List ℕ} → Blanked X work → ChecksNoted X work′ r work″ → ChecksImage X work r work″
         noted-checked {r} b c =
             subst (ChecksImage X work r) (sym (c .stays)) (record {
-              gives = c .gives ∙ sym (chain-pass ∙ first-skips _ _ (scan-passes (conflict X) (length (X .stack)) (λ i. refused 4 nowhere) (apart-of-walk X work′ (length (X .heap)) (w .noted refl) few)));
+              gives = c .gives ∙ sym (chain-pass ∙ first-skips _ _ (scan-passes (conflict X) (length (X .stack)) (λ j. refused 4 (inArea Stack j)) (λ j l. sym (conflicts j l) ∙ few j l)));
               passed = λ q. record { blank = front b; noted = noted; rest = w .after; same = w .same };
               rest = w .after;
               same = w .same;

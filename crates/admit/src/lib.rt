@@ -1,10 +1,13 @@
 // The table of refusals 1 to 7 and 17, in the order of checks. What passes leaves its notes in the work words.
 use cells::Checked;
 use machine::ARGUMENTS_MOST;
+use machine::Area;
 use machine::FIXED;
 use machine::H;
 use machine::HEAP_MOST;
 use machine::N;
+use machine::NONE;
+use machine::Place;
 use machine::Refusal;
 use machine::STACK_MOST;
 use machine::T;
@@ -97,11 +100,16 @@ fn check_image(
         return Checked::Refused(Refusal::Registers);
     }
     let notes = heap.len();
-    if !chains::walk(control, stack, work, notes) {
-        return Checked::Refused(Refusal::Chain);
+    let fault = chains::walk(control, stack, work, notes);
+    if fault != NONE {
+        let index = fault as usize;
+        let area = Area::Stack;
+        return Checked::Refused(Refusal::Chain(Place { area, index }));
     }
-    if !chains::apart(work, notes, stack.len()) {
-        return Checked::Refused(Refusal::Roles);
+    let index = chains::apart(work, notes, stack.len());
+    if index < stack.len() {
+        let area = Area::Stack;
+        return Checked::Refused(Refusal::Roles(Place { area, index }));
     }
     check_noted(control, stack, heap, trail, work)
 }

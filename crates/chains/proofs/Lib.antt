@@ -5,5 +5,6 @@ pub mod Offsets
 pub mod Things
 pub mod Notings
 pub mod Walkings
+pub mod Faults
 pub mod Ends
 pub mod Conflicts

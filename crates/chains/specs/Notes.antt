@@ -3,11 +3,12 @@
 use Prim.Native.Nat.{ℕ, _+_, _<_, _≤_}
 use mathlib.Core.Path.{_≡_}
 use mathlib.Core.Logic.{_≢_, _⊎_, _↔_}
-use mathlib.Core.Bool.{Bool, true, false}
+use mathlib.Core.Bool.{Bool, true}
 use mathlib.Core.List.{List}
 use lib.ListN.{length, take, drop}
-use Rattle.machine.specs.Layout.{Image, fixed}
-use Rattle.machine.specs.Chains.{whole, walk, faultOf}
+use lib.Dec.{leb}
+use Rattle.machine.specs.Layout.{Image, fixed, none}
+use Rattle.machine.specs.Chains.{whole, broken, walk, faultOf}
 use Rattle.machine.specs.Roles.{Role, CL, has, codeOf, noteAt}
 
 abbrev pub several : ℕ
@@ -15,6 +16,10 @@ several = 11
 
 abbrev pub severalWithSize : ℕ
 severalWithSize = 12
+
+-- the word i has two or more
+unfoldable pub severalAt : List ℕ → ℕ → ℕ → Bool
+severalAt work notes i = leb several (noteAt work notes i)
 
 -- the note of a set of roles
 pub data Shows (set : Role → Type 0) : ℕ → Type 0 where
@@ -29,10 +34,10 @@ pub record Blank (control stack work : List ℕ) (notes : ℕ) : Type 0 where
   pub room : notes + length stack ≤ length work
   pub zero : (i : ℕ) → i < length stack → noteAt work notes i ≡ 0
 
--- a walk notes all roles of a whole image, and says of any other that it is broken; it writes nothing but notes
-pub record Walks (X : Image) (work : List ℕ) (notes : ℕ) (r : Bool) (work′ : List ℕ) : Type 0 where
-  pub noted : r ≡ true → (faultOf X (walk X) ≡ whole) × ((i : ℕ) → i < length (X .stack) → Shows (λ (role : Role). has X i role ≡ true) (noteAt work′ notes i))
-  pub broken : r ≡ false → faultOf X (walk X) ≢ whole
+-- a walk notes all roles of a whole image and answers `none`; of any other it answers where the first fault is. It writes nothing but notes.
+pub record Walks (X : Image) (work : List ℕ) (notes r : ℕ) (work′ : List ℕ) : Type 0 where
+  pub noted : r ≡ none → (faultOf X (walk X) ≡ whole) × ((i : ℕ) → i < length (X .stack) → Shows (λ (role : Role). has X i role ≡ true) (noteAt work′ notes i))
+  pub stopped : r ≢ none → faultOf X (walk X) ≡ broken r
   pub before : take notes work′ ≡ take notes work
   pub after : drop (notes + length (X .stack)) work′ ≡ drop (notes + length (X .stack)) work
   pub same : length work′ ≡ length work

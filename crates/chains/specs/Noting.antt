@@ -4,11 +4,11 @@ use Prim.Native.Nat.{ℕ, zero, suc, _+_, _-_, _<_, _≤_}
 use mathlib.Core.Path.{_≡_}
 use mathlib.Core.Logic.{_≢_, _⊎_, _↔_}
 use mathlib.Core.Bool.{Bool, true, false}
-use mathlib.Core.List.{List, _∷_}
+use mathlib.Core.List.{List, [], _∷_}
 use lib.ListN.{length, getD}
 use lib.Dec.{ltb}
-use Rattle.machine.specs.Layout.{Image, P, L, E, B, T, H, fixed, none, reg, sizeOf, frameFixed}
-use Rattle.machine.specs.Chains.{Thing, frame, point, indexOf, whole, walk, faultOf}
+use Rattle.machine.specs.Layout.{Image, P, L, E, B, T, H, fixed, none, reg, at, sizeOf, frameFixed, sizeAt, linkAt}
+use Rattle.machine.specs.Chains.{Thing, frame, point, indexOf, Fault, whole, broken}
 use Rattle.machine.specs.Roles.{Role, cell, CL, CE, own, gives, some, codeOf, noteAt}
 use Rattle.machine.proofs.Lists.{In}
 use Rattle.machine.proofs.Links.{Next, Real, Ok}
@@ -58,7 +58,12 @@ pub data Leads (X : Image) (things : List Thing) : Thing → Type 0 where
   byB : reg X B ≢ none → Leads X things (point (reg X B) (length (X .stack)) (reg X T) (reg X H))
   by : {x y : Thing} → In x things → Next X x y → Leads X things y
 
--- the notes are those of some real and sound things; what these lead to is among them, or due
+-- the things due behind the first
+abbrev pub behind : List Thing → List Thing
+behind [] = []
+behind (x ∷ xs) = xs
+
+-- the notes are those of some real and sound things; what these lead to is among them, or due, a frame being due first
 pub record Noting (X : Image) (due : List Thing) (notes : ℕ) (work : List ℕ) : Type 0 where
   pub things : List Thing
   pub shown : (i : ℕ) → i < length (X .stack) → Shows (λ (r : Role). some (gives X i r) things ≡ true) (noteAt work notes i)
@@ -66,13 +71,26 @@ pub record Noting (X : Image) (due : List Thing) (notes : ℕ) (work : List ℕ)
   pub ok : (x : Thing) → In x things → Ok X x
   pub realDue : (x : Thing) → In x due → indexOf x ≢ none → Real X x
   pub closed : (y : Thing) → Leads X things y → In y things ⊎ In y due
+  pub frameFirst : (e k limit : ℕ) → In (frame e k limit) (behind due) → ⊥
 
--- a thing that was due is noted with all that it leads to, or the image is broken
-pub record Settles (X : Image) (x : Thing) (notes : ℕ) (work : List ℕ) (r : Bool) (work′ : List ℕ) : Type 0 where
-  pub noted : (rest : List Thing) → Noting X (x ∷ rest) notes work → r ≡ true → Noting X rest notes work′
-  pub broken : (rest : List Thing) → Noting X (x ∷ rest) notes work → r ≡ false → faultOf X (walk X) ≢ whole
+-- the first fault that the walk meets from a thing on: the thing itself, or one of what it leads to, a choice point's frames before the
+-- older choice points
+pub data FaultFrom (X : Image) : Thing → Fault → Type 0 where
+  ended : {x : Thing} → indexOf x ≡ none → FaultFrom X x whole
+  found : {x : Thing} → indexOf x ≢ none → (Ok X x → ⊥) → FaultFrom X x (broken (indexOf x))
+  above : {e k limit : ℕ} {f : Fault} → e ≢ none → Ok X (frame e k limit) → FaultFrom X (frame (linkAt X e) (sizeOf (sizeAt X e)) e) f
+      → FaultFrom X (frame e k limit) f
+  inside : {b limit t h i : ℕ} → b ≢ none → Ok X (point b limit t h) → FaultFrom X (frame (at X b E) (sizeOf (at X b L)) b) (broken i)
+      → FaultFrom X (point b limit t h) (broken i)
+  older : {b limit t h : ℕ} {f : Fault} → b ≢ none → Ok X (point b limit t h) → FaultFrom X (frame (at X b E) (sizeOf (at X b L)) b) whole
+      → FaultFrom X (point (at X b B) b (at X b T) (at X b H)) f → FaultFrom X (point b limit t h) f
+
+-- a thing that was due is noted with all that it leads to, and none of that is at fault; or the first at fault is answered
+pub record Settles (X : Image) (x : Thing) (notes : ℕ) (work : List ℕ) (r : ℕ) (work′ : List ℕ) : Type 0 where
+  pub noted : (rest : List Thing) → Noting X (x ∷ rest) notes work → r ≡ none → Noting X rest notes work′ × FaultFrom X x whole
+  pub stopped : (rest : List Thing) → Noting X (x ∷ rest) notes work → r ≢ none → FaultFrom X x (broken r)
 
 -- what the walk of a chain from x does, for every image with this stack
-pub record Walked (stack : List ℕ) (notes : ℕ) (x : Thing) (work : List ℕ) (r : Bool) (work′ : List ℕ) : Type 0 where
+pub record Walked (stack : List ℕ) (notes : ℕ) (x : Thing) (work : List ℕ) (r : ℕ) (work′ : List ℕ) : Type 0 where
   pub kept : Kept notes (notes + length stack) work work′
   pub settled : (X : Image) → X .stack ≡ stack → Settles X x notes work r work′

@@ -1,5 +1,5 @@
 // Walks the chains of frames and choice points, from the newest, and notes the role of each stack word. A frame met before is noted in
-// the view it is met in and followed no further: its parents were noted when it was first met.
+// the view it is met in and followed no further: its parents were noted when it was first met, and none of them was at fault.
 use machine::ARGUMENTS_MOST;
 use machine::B;
 use machine::CELL;
@@ -16,13 +16,13 @@ use machine::OWN;
 use machine::SIZE_FIELD;
 use machine::T;
 ghost use mathlib.Core.Path.{_≡_};
-ghost use mathlib.Core.Bool.{true, false};
-ghost use Prim.Native.Nat.{ℕ, _+_, _<_, _≤_};
+ghost use Prim.Native.Nat.{_+_, _≤_};
 ghost use lib.ListN.{length};
 ghost use Rattle.machine.specs.Layout.{Image, fixed, none, sizeOf, frameFixed};
 ghost use Rattle.machine.specs.Chains.{frame, point, sound};
-ghost use Rattle.machine.specs.Roles.{cell, codeOf, noteAt};
-ghost use Rattle.chains.specs.Notes.{several, Blank, Walks};
+ghost use Rattle.machine.specs.Refusals.{first};
+ghost use Rattle.machine.specs.Roles.{cell, codeOf};
+ghost use Rattle.chains.specs.Notes.{severalAt, Blank, Walks};
 ghost use Rattle.chains.specs.Noting.{Joins, ShowsSize, Gains, FrameNoted, PointNoted, Walked};
 
 // The notes of words with several roles.
@@ -109,8 +109,8 @@ fn note_point(work: &mut [u32], notes: usize, b: usize, n: usize)
     note_cells(work, at + FIXED, at + FIXED + n);
 }
 
-// Notes the frames from e, the first of them of the size that l says; false if one is broken.
-fn walk_frames(stack: &[u32], work: &mut [u32], notes: usize, e: u32, l: u32, limit: usize) -> bool
+// Notes the frames from e, the first of them of the size that l says; the index of the first that is broken, or NONE.
+fn walk_frames(stack: &[u32], work: &mut [u32], notes: usize, e: u32, l: u32, limit: usize) -> u32
     requires { ⌜ (limit ≤ length (now stack)) × (notes + length (now stack) ≤ length (now work)) ⌝ }
     ensures { λ r. ⌜ Walked (now (stack .entry)) notes (frame e (sizeOf l) limit) (now (work .entry)) r (now (work .exit)) ⌝ }
 {
@@ -121,18 +121,18 @@ fn walk_frames(stack: &[u32], work: &mut [u32], notes: usize, e: u32, l: u32, li
         let at = next as usize;
         let k = (size % 256) as usize;
         if end < at + FRAME_FIXED + k {
-            return false;
+            return next;
         }
         let met = shows_size(work[notes + at]);
         note_frame(work, notes, at, k);
         if met {
-            return true;
+            return NONE;
         }
         size = stack[at];
         next = stack[at + LINK];
         end = at;
     }
-    true
+    NONE
 }
 
 // Whether the choice point at b ends in time, and its T and H are at most t and h.
@@ -156,8 +156,8 @@ fn point_sound(stack: &[u32], b: usize, limit: usize, t: u32, h: u32) -> bool
     stack[b + H] <= h
 }
 
-// Notes the choice points from b and their frames; false if one is broken.
-fn walk_points(stack: &[u32], work: &mut [u32], notes: usize, b: u32, t: u32, h: u32) -> bool
+// Notes the choice points from b, each with its frames after it; the index of the first that is broken, or NONE.
+fn walk_points(stack: &[u32], work: &mut [u32], notes: usize, b: u32, t: u32, h: u32) -> u32
     requires { ⌜ notes + length (now stack) ≤ length (now work) ⌝ }
     ensures { λ r. ⌜ Walked (now (stack .entry)) notes (point b (length (now (stack .entry))) t h) (now (work .entry)) r (now (work .exit)) ⌝ }
 {
@@ -168,43 +168,45 @@ fn walk_points(stack: &[u32], work: &mut [u32], notes: usize, b: u32, t: u32, h:
     while next != NONE {
         let at = next as usize;
         if !point_sound(stack, at, end, most_t, most_h) {
-            return false;
+            return next;
         }
         note_point(work, notes, at, stack[at + N] as usize);
-        if !walk_frames(stack, work, notes, stack[at + E], stack[at + L], at) {
-            return false;
+        let fault = walk_frames(stack, work, notes, stack[at + E], stack[at + L], at);
+        if fault != NONE {
+            return fault;
         }
         next = stack[at + B];
         most_t = stack[at + T];
         most_h = stack[at + H];
         end = at;
     }
-    true
+    NONE
 }
 
-// Notes every role in the work words from `notes` on, which are blank; false if a chain is broken.
-pub fn walk(control: &[u32], stack: &[u32], work: &mut [u32], notes: usize) -> bool
+// Notes every role in the work words from `notes` on, which are blank; the index of the first frame or choice point that breaks a chain,
+// as its pointer holds it, or NONE.
+pub fn walk(control: &[u32], stack: &[u32], work: &mut [u32], notes: usize) -> u32
     requires { ⌜ Blank (now control) (now stack) (now work) notes ⌝ }
     ensures { λ r. ⌜ ((X : Image) → X .control ≡ now (control .entry) → X .stack ≡ now (stack .entry) → Walks X (now (work .entry)) notes r (now (work .exit))) ⌝ }
 {
-    if !walk_frames(stack, work, notes, control[E], control[L], stack.len()) {
-        return false;
+    let fault = walk_frames(stack, work, notes, control[E], control[L], stack.len());
+    if fault != NONE {
+        return fault;
     }
     walk_points(stack, work, notes, control[B], control[T], control[H])
 }
 
-// Whether every note is of one role or none.
-pub fn apart(work: &[u32], notes: usize, count: usize) -> bool
+// The lowest of `count` words whose note is of several roles, or `count`.
+pub fn apart(work: &[u32], notes: usize, count: usize) -> usize
     requires { ⌜ notes + count ≤ length (now work) ⌝ }
-    ensures { λ r. ⌜ (r ≡ true → (i : ℕ) → i < count → noteAt (now (work .entry)) notes i < several) ⌝ }
-    ensures { λ r. ⌜ (r ≡ false → (i : ℕ) × (i < count) × (several ≤ noteAt (now (work .entry)) notes i)) ⌝ }
+    ensures { λ r. ⌜ r ≡ first (severalAt (now (work .entry)) notes) 0 count ⌝ }
 {
     let mut i = 0;
     while i < count {
         if SEVERAL <= work[notes + i] {
-            return false;
+            return i;
         }
         i += 1;
     }
-    true
+    i
 }

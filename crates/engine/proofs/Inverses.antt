@@ -54,8 +54,8 @@ verdict-inverse : (r : Refusal) → verdictBy (reasonOf (verdictOf r)) ≡ verdi
 unfolding verdictOf
 verdict-inverse Sizes = refl
 verdict-inverse Registers = refl
-verdict-inverse Chain = refl
-verdict-inverse Roles = refl
+verdict-inverse (Chain p) = placed-inverse 2 (p .area) (p .index)
+verdict-inverse (Roles p) = placed-inverse 3 (p .area) (p .index)
 verdict-inverse (Bits p) = placed-inverse 4 (p .area) (p .index)
 verdict-inverse (Reference p) = placed-inverse 5 (p .area) (p .index)
 verdict-inverse (Entry p) = placed-inverse 6 (p .area) (p .index)

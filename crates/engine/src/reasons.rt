@@ -72,8 +72,8 @@ pub fn reason_of(refusal: Refusal) -> Reason
     match refusal {
         Refusal::Sizes => placeless(1),
         Refusal::Registers => placeless(2),
-        Refusal::Chain => placeless(3),
-        Refusal::Roles => placeless(4),
+        Refusal::Chain(place) => placed(3, place),
+        Refusal::Roles(place) => placed(4, place),
         Refusal::Bits(place) => placed(5, place),
         Refusal::Reference(place) => placed(6, place),
         Refusal::Entry(place) => placed(7, place),

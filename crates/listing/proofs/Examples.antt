@@ -1,7 +1,7 @@
 -- The texts of document 01, 'Listing program', are what the definitions say. Assumes nothing.
 use mathlib.Core.Path.{_≡_, refl}
 use mathlib.Core.List.{[], _∷_}
-use Rattle.machine.specs.declared.Area.the-variants.{Trail}
+use Rattle.machine.specs.declared.Area.the-variants.{Stack, Trail}
 use Rattle.machine.specs.Layout.{field}
 use Rattle.machine.specs.Refusals.{nowhere, inArea, accepted}
 use Rattle.text.specs.Decimal.{digits}
@@ -31,7 +31,12 @@ refused-placed : refusedText 7 (inArea Trail 0) ≡ ascii "refused 7 trail 0\n"
 unfolding digits spaced placeText refusedText
 refused-placed = refl
 
-refused-alone : refusedText 3 nowhere ≡ ascii "refused 3\n"
+-- a place outside the stack
+refused-outside : refusedText 3 (inArea Stack 4294967294) ≡ ascii "refused 3 stack 4294967294\n"
+unfolding digits spaced placeText refusedText
+refused-outside = refl
+
+refused-alone : refusedText 2 nowhere ≡ ascii "refused 2\n"
 unfolding digits spaced placeText refusedText
 refused-alone = refl
 

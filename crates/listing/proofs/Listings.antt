@@ -71,8 +71,8 @@ pub refusal-numbered : (q : Refusal) → (number : ℕ) × (place : Where) × (v
 unfolding verdictOf
 refusal-numbered Sizes = (1, nowhere, refl)
 refusal-numbered Registers = (2, nowhere, refl)
-refusal-numbered Chain = (3, nowhere, refl)
-refusal-numbered Roles = (4, nowhere, refl)
+refusal-numbered (Chain p) = (3, placeIn p, refl)
+refusal-numbered (Roles p) = (4, placeIn p, refl)
 refusal-numbered (Bits p) = (5, placeIn p, refl)
 refusal-numbered (Reference p) = (6, placeIn p, refl)
 refusal-numbered (Entry p) = (7, placeIn p, refl)

@@ -22,8 +22,8 @@ pub number-counts : (q : Refusal) (number : ℕ) (place : Where) → refused num
 unfolding verdictOf
 number-counts Sizes number place e = let z : number ≡ 1 = cc in omega arith
 number-counts Registers number place e = let z : number ≡ 2 = cc in omega arith
-number-counts Chain number place e = let z : number ≡ 3 = cc in omega arith
-number-counts Roles number place e = let z : number ≡ 4 = cc in omega arith
+number-counts (Chain p) number place e = let z : number ≡ 3 = cc in omega arith
+number-counts (Roles p) number place e = let z : number ≡ 4 = cc in omega arith
 number-counts (Bits p) number place e = let z : number ≡ 5 = cc in omega arith
 number-counts (Reference p) number place e = let z : number ≡ 6 = cc in omega arith
 number-counts (Entry p) number place e = let z : number ≡ 7 = cc in omega arith

@@ -2,19 +2,17 @@
 -- call left them. Assumes nothing.
 use Prim.Native.Nat.{ℕ, _+_, _-_, _≤_, _<_}
 use mathlib.Core.Path.{_≡_, refl, sym, ap, _∙_, subst}
-use mathlib.Core.Logic.{inl, inr}
-use mathlib.Core.Bool.{Bool, true}
+use mathlib.Core.Bool.{true}
 use mathlib.Core.List.{List, _++_}
 use native.Mathlib.Omega.{arith}
-use native.Mathlib.Decide.{decLt}
+use native.Mathlib.Decide.{ℕ-discrete}
 use lib.ListN.{length, take, drop, replicate, length-append, length-drop, length-replicate}
 use Rattle.machine.specs.declared.Area.{Area}
 use Rattle.machine.specs.declared.Area.the-variants.{Stack, Control}
-use Rattle.machine.specs.Layout.{Image, fixed}
-use Rattle.machine.specs.Chains.{walk, faultOf, whole}
-use Rattle.machine.specs.Roles.{has, isCell, cell, noteAt}
+use Rattle.machine.specs.Layout.{Image, none, fixed}
+use Rattle.machine.specs.Chains.{walk, faultOf, whole, broken}
+use Rattle.machine.specs.Roles.{has, isCell, cell}
 use Rattle.machine.specs.Refusals.{workWords, enough}
-use Rattle.machine.proofs.Tests.{true-false, either}
 use Rattle.machine.proofs.Accepted.{Accepted}
 use Rattle.machine.proofs.Chains.{role-low}
 use Rattle.machine.proofs.Checks.{enough-iff}
@@ -22,14 +20,17 @@ use Rattle.machine.proofs.Roles.{has-is, apart-iff}
 use Rattle.machine.proofs.Verdicts.{verdict-accepted}
 use Rattle.machine.proofs.Walks.{whole-linked}
 use Rattle.machine.proofs.Works.{clearedTo, uses-all, lent-cleared}
-use Rattle.chains.specs.Notes.{several, Blank, Walks, Noted}
-use Rattle.chains.proofs.Conflicts.{noted-of-walk, conflict-of-walk}
+use Rattle.chains.specs.Notes.{Blank, Walks, Noted}
+use Rattle.chains.proofs.Conflicts.{noted-of-walk, conflict-noted}
 use Rattle.admit.specs.Admits.{Blanked}
 use Rattle.admit.proofs.Admitting.{blanked, cleared-rest}
 use Rattle.order.specs.Chains.{RootAt, inControl, onStack}
 use Rattle.telling.specs.declared.owners.Owner.{Owner}
 use Rattle.telling.specs.Parts.{Shown, Owned, Owns, Rooted}
 use Rattle.telling.proofs.Firsts.{ownerOf, First, first-owner, gives-low, first-shown}
+
+whole-broken : {i : ℕ} → whole ≡ broken i → ⊥
+whole-broken e = let z : _≡_ {A = ℕ} 0 1 = cc in omega arith
 
 module _ {control stack work : List ℕ} {notes : ℕ} {area : Area} {index : ℕ} (a : Rooted control stack work notes area index) where
   abbrev X : Image
@@ -61,20 +62,17 @@ module _ {control stack work : List ℕ} {notes : ℕ} {area : Area} {index : �
   pub all-words : notes + length stack ≡ workWords X
   all-words = omega (arith, a .afterHeap, ap length (a .sameStack))
 
-  module _ {r : Bool} {walked : List ℕ} (w : Walks X work notes r walked) where
+  module _ {r : ℕ} {walked : List ℕ} (w : Walks X work notes r walked) where
     sees-all : faultOf X (walk X) ≡ whole
     sees-all = whole-linked X .1 (accepts .0 .linked)
 
     pub walk-noted : Noted X walked notes
     walk-noted =
-        elim (either r) [
-          | inl q ↦
+        elim (ℕ-discrete r none) [
+          | yes q ↦
               noted-of-walk X walked notes (w .noted q) (λ i l.
-              elim (decLt (noteAt walked notes i) several) [
-                | yes few ↦ few
-                | no many ↦ true-false (conflict-of-walk X walked notes (w .noted q) i l (omega arith)) (apart-iff X sees-all .1 (accepts .0 .apart) i l)
-              ])
-          | inr q ↦ absurd (w .broken q sees-all)
+              conflict-noted X walked notes (w .noted q) i l ∙ apart-iff X sees-all .1 (accepts .0 .apart) i l)
+          | no q ↦ absurd (whole-broken (sym sees-all ∙ w .stopped q))
         ]
 
     pub walked-cleared : (exit : List ℕ) → exit ≡ take 0 walked ++ (replicate (notes + length stack - 0) 0 ++ drop (notes + length stack) walked) → exit ≡ work
@@ -114,7 +112,7 @@ module _ {control stack work : List ℕ} {notes i : ℕ} (a : Rooted control sta
   pub root-low : i < length (a .image .stack)
   root-low = role-low (a .image) (accepts a .0 .linked) i cell (has-is (a .image) i cell (cell-here (a .root)))
 
-  module _ {r : Bool} {walked : List ℕ} (w : Walks (a .image) work notes r walked) where
+  module _ {r : ℕ} {walked : List ℕ} (w : Walks (a .image) work notes r walked) where
     shown : Shown walked notes i (ownerOf (first .thing))
     shown = first-shown (accepts a .0 .linked) (walk-noted a w) i first
 

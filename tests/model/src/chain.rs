@@ -28,32 +28,36 @@ pub struct Chains {
     pub choice_points: Vec<ChoicePoint>,
 }
 
+/// Document 02, order 5: a chain is broken at this stack index, that "of the first frame or choice
+/// point at fault", "as its pointer holds it, even outside the stack".
+#[derive(Clone, Copy, Debug, PartialEq, Eq)]
+pub struct BrokenAt(pub usize);
+
 /// "the size of the frame at E is L mod 256"; CL stands to CE as L stands to E.
 pub fn frame_size(l: u32) -> usize {
     (l % ARITY_LIMIT) as usize
 }
 
 /// The frame chain from one E. The first frame ends at or below `bound`, each later one at or
-/// below the child frame's index. A broken chain gives nothing.
-pub fn frames(stack: &[u32], e: u32, l: u32, bound: usize) -> Option<Vec<View>> {
+/// below the child frame's index. A frame that does not is at fault, not whoever points to it.
+pub fn frames(stack: &[u32], e: u32, l: u32, bound: usize) -> Result<Vec<View>, BrokenAt> {
     let mut views = Vec::new();
     let (mut next, mut size, mut bound) = (e, frame_size(l), bound);
     while next != NONE {
         let at = next as usize;
         if at + FRAME_WORDS + size > bound {
-            return None;
+            return Err(BrokenAt(at));
         }
         views.push(View { at, size });
         next = stack[at + FRAME_CE];
         size = frame_size(stack[at]);
         bound = at;
     }
-    Some(views)
+    Ok(views)
 }
 
-/// The choice point at `b`, if it stands below `bound` and fits the newer one.
-fn choice_point(stack: &[u32], b: u32, bound: usize, newer: &Header) -> Option<ChoicePoint> {
-    let at = b as usize;
+/// The choice point at `at`, if it stands below `bound` and fits the newer one.
+fn choice_point(stack: &[u32], at: usize, bound: usize, newer: &Header) -> Option<ChoicePoint> {
     if at + FIXED_WORDS > bound {
         return None;
     }
@@ -65,19 +69,21 @@ fn choice_point(stack: &[u32], b: u32, bound: usize, newer: &Header) -> Option<C
     fits.then_some(ChoicePoint { at, header: own })
 }
 
-/// All chains of the image, or nothing if one is broken.
-pub fn walk(image: &Image) -> Option<Chains> {
+/// All chains of the image, or where the first of them is broken: "the control's frames first, then
+/// from the newest each choice point (place, n, T, H) and after it its frames".
+pub fn walk(image: &Image) -> Result<Chains, BrokenAt> {
     let stack = &image.stack;
     let mut newer = image.control_header();
     let mut bound = stack.len();
     let mut chains = Chains::default();
     chains.views.extend(frames(stack, newer.e, newer.l, bound)?);
     while newer.b != NONE {
-        let found = choice_point(stack, newer.b, bound, &newer)?;
+        let at = newer.b as usize;
+        let found = choice_point(stack, at, bound, &newer).ok_or(BrokenAt(at))?;
         newer = found.header;
         bound = found.at;
         chains.choice_points.push(found);
         chains.views.extend(frames(stack, newer.e, newer.l, bound)?);
     }
-    Some(chains)
+    Ok(chains)
 }

@@ -2,7 +2,7 @@
 
 use std::collections::BTreeSet;
 
-use crate::chain::{walk, Chains};
+use crate::chain::{walk, BrokenAt, Chains};
 use crate::image::{Image, FIXED_WORDS, MOST_ARGUMENTS};
 use crate::refer::{names_a_functor, refers_wrongly, Holder};
 use crate::refusal::*;
@@ -29,11 +29,9 @@ pub fn check(image: &Image, work_length: usize) -> Result<Checked, Refusal> {
     if !counts_fit(image) {
         return Err(refused(COUNTS_ABOVE_LENGTHS));
     }
-    let chains = walk(image).ok_or(refused(BROKEN_CHAIN))?;
+    let chains = chains_whole(image)?;
     let roles = roles(image.stack.len(), &chains);
-    if roles.conflict() {
-        return Err(refused(TWO_ROLES));
-    }
+    one_role_each(&roles)?;
     bits_clear(image, &roles)?;
     references_right(image, &roles)?;
     entries_right(image, &roles)?;
@@ -69,6 +67,19 @@ pub fn counts_fit(image: &Image) -> bool {
     control.t <= image.trail.len()
         && control.h <= image.heap.len()
         && FIXED_WORDS + control.n <= image.control.len()
+}
+
+/// Refusal 3: the place names the frame or choice point itself, whatever of it is wrong.
+fn chains_whole(image: &Image) -> Result<Chains, Refusal> {
+    walk(image).map_err(|BrokenAt(index)| refused_at(BROKEN_CHAIN, Area::Stack, index))
+}
+
+/// Refusal 4.
+fn one_role_each(roles: &Roles) -> Result<(), Refusal> {
+    match roles.lowest_conflict() {
+        Some(index) => Err(refused_at(TWO_ROLES, Area::Stack, index)),
+        None => Ok(()),
+    }
 }
 
 /// "For 5 and 6 the cells are the heap's below H, dead or not, the stack's and the control's

@@ -20,14 +20,15 @@ impl Area {
     }
 }
 
-/// "Place is an area (heap, stack, control or trail) and the lowest index in it".
+/// "Place is an area (heap, stack, control or trail) and the lowest index in it". For 3 it is the
+/// index of the first frame or choice point at fault, which may lie outside the stack.
 #[derive(Clone, Copy, Debug, PartialEq, Eq)]
 pub struct Place {
     pub area: Area,
     pub index: usize,
 }
 
-/// A refused call: its number, and a place for 5, 6, 7 and 17 alone.
+/// A refused call: its number, and a place for 3 to 7 and 17 alone.
 #[derive(Clone, Copy, Debug, PartialEq, Eq)]
 pub struct Refusal {
     pub number: u32,

@@ -77,9 +77,10 @@ impl Roles {
         self.of(index).any(|role| role != Role::Cell)
     }
 
-    /// "a stack word would have two different roles or be two different fields"
-    pub fn conflict(&self) -> bool {
-        (0..self.0.len()).any(|index| self.of(index).count() > 1)
+    /// "a stack word would have two different roles or be two different fields"; of all such words
+    /// "the lowest word in conflict"
+    pub fn lowest_conflict(&self) -> Option<usize> {
+        (0..self.0.len()).find(|index| self.of(*index).count() > 1)
     }
 
     /// The indexes of all stack words that are cells, rising.

@@ -9,13 +9,13 @@ use model::word::NONE;
 fn numbers_near_the_largest_do_not_wrap() {
     let mut empty = tiny(&[], &[]);
     empty.control[2] = 4_294_967_294;
-    assert_refused(&empty, 3, None);
+    assert_refused_in_stack(&empty, 3, 4_294_967_294);
     let mut b = two_chains();
     b.control[3] = 4_294_967_289;
-    assert_refused(&b, 3, None);
+    assert_refused_in_stack(&b, 3, 4_294_967_289);
     let mut n = two_chains();
     n.stack[2 + 6] = 4_294_967_289;
-    assert_refused(&n, 3, None);
+    assert_refused_in_stack(&n, 3, 2);
 }
 
 #[test]
@@ -23,29 +23,29 @@ fn frames_end_at_their_bounds() {
     // The control's frame at the stack's end.
     let mut image = two_chains();
     image.control[1] = 3;
-    assert_refused(&image, 3, None);
+    assert_refused_in_stack(&image, 3, 9);
     image.stack.push(k(0));
     assert_accepted(&image);
     // The choice point's frame at the choice point.
     let mut image = two_chains();
     image.stack[2 + 1] = 1;
-    assert_refused(&image, 3, None);
+    assert_refused_in_stack(&image, 3, 0);
     // The child frame of an older one.
     let mut image = two_chains();
     image.stack[9] = 7;
-    assert_refused(&image, 4, None);
+    assert_refused_in_stack(&image, 4, 2);
     image.stack[9] = 8;
-    assert_refused(&image, 3, None);
+    assert_refused_in_stack(&image, 3, 0);
 }
 
 #[test]
 fn a_pointer_to_its_own_index_is_no_loop() {
     let mut image = two_chains();
     image.stack[10] = 9;
-    assert_refused(&image, 3, None);
+    assert_refused_in_stack(&image, 3, 9);
     let mut image = two_chains();
     image.stack[2 + 3] = 2;
-    assert_refused(&image, 3, None);
+    assert_refused_in_stack(&image, 3, 2);
 }
 
 #[test]
@@ -56,20 +56,20 @@ fn a_choice_point_and_its_bounds() {
     image.control[3] = 0;
     assert_accepted(&image);
     image.stack[6] = 2;
-    assert_refused(&image, 3, None);
+    assert_refused_in_stack(&image, 3, 0);
     // n of 255 and 256.
     image.stack.resize(7 + 256, k(3));
     image.stack[6] = 255;
     assert_accepted(&image);
     image.stack[6] = 256;
-    assert_refused(&image, 3, None);
+    assert_refused_in_stack(&image, 3, 0);
     // T and H at most the newer one's.
     for field in [4, 5] {
         let mut image = two_chains();
         image.stack[2 + field] = 2;
         assert_accepted(&image);
         image.stack[2 + field] = 3;
-        assert_refused(&image, 3, None);
+        assert_refused_in_stack(&image, 3, 2);
     }
 }
 
@@ -77,7 +77,7 @@ fn a_choice_point_and_its_bounds() {
 fn a_choice_points_frame_stands_below_it() {
     let mut image = two_chains();
     image.stack[2 + 2] = 9;
-    assert_refused(&image, 3, None);
+    assert_refused_in_stack(&image, 3, 9);
 }
 
 #[test]
@@ -106,12 +106,12 @@ fn overlapping_objects() {
         let mut image = two_chains();
         image.control[1..3].copy_from_slice(&[0, e]);
         image.stack[e as usize + 1] = NONE;
-        assert_refused(&image, 4, None);
+        assert_refused_in_stack(&image, 4, e as usize);
     }
     // The frame at 0 seen so large that it covers the choice point's first word.
     let mut image = two_chains();
     image.control[1..3].copy_from_slice(&[1, 0]);
-    assert_refused(&image, 4, None);
+    assert_refused_in_stack(&image, 4, 2);
 }
 
 #[test]

@@ -34,6 +34,14 @@ fn assert_images(tally: &Tally) {
         }
     }
     assert_share("17 trail", tally.at(17, Area::Trail), all, 3);
+    for number in [3, 4] {
+        let in_stack = tally.at(number, Area::Stack);
+        assert_eq!(
+            in_stack,
+            tally.collect.of(number),
+            "{number} is always in the stack"
+        );
+    }
     let accepted = tally.collect.of(0);
     assert_share("cells kept and dropped", tally.cells_both, accepted, 500);
     assert_share("entries of both kinds", tally.entries_both, accepted, 300);

@@ -2,6 +2,9 @@
 
 mod common;
 
+use std::fs;
+use std::path::Path;
+
 use common::*;
 use model::freeze::file_of;
 use model::image::Image;
@@ -31,6 +34,21 @@ fn the_longest_legal_file() {
     assert_eq!(listing(&file_of(&longer)), "file 12 0\n");
 }
 
+/// The freeze files of `crates/shows`, which are made by `tests/make_shows.py`, as the program that
+/// the crate makes prints them one after the other.
+#[test]
+fn the_stored_listings_are_the_model_s() {
+    let crate_shows = Path::new(env!("CARGO_MANIFEST_DIR")).join("../../crates/shows");
+    let names = fs::read_to_string(crate_shows.join("args")).expect("the names");
+    let mut text = String::new();
+    for name in names.lines() {
+        let file = fs::read(crate_shows.join("data").join(name)).expect("a freeze file");
+        text += &format!("{name}\n{}", listing(&file));
+    }
+    let stored = fs::read_to_string(crate_shows.join("stdout")).expect("the listings");
+    assert!(names.lines().count() > 100 && text == stored);
+}
+
 #[test]
 fn a_trail_entry_past_the_counted_stack() {
     let mut image = night_a();
@@ -39,11 +57,14 @@ fn a_trail_entry_past_the_counted_stack() {
 }
 
 #[test]
-fn refusals_without_a_place_are_listed_so() {
+fn broken_chains_and_conflicts_are_listed_with_their_places() {
     let mut image = night_a();
-    image.control[2] = 11;
-    assert_eq!(listing(&file_of(&image)), "refused 3\n");
+    for e in [11, 12, 500, 4_294_967_294] {
+        image.control[2] = e;
+        let line = format!("refused 3 stack {e}\n");
+        assert_eq!(listing(&file_of(&image)), line);
+    }
     // At 8, 5 and 0 the words of the choice point happen to be a sound chain of frames.
     image.control[2] = 8;
-    assert_eq!(listing(&file_of(&image)), "refused 4\n");
+    assert_eq!(listing(&file_of(&image)), "refused 4 stack 5\n");
 }

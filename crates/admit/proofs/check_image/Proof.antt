@@ -1,13 +1,13 @@
 -- `admit::check_image` meets its contract: registers, chains, roles and noted words are checked in the table's order, each on what the checks
 -- before it have shown. Assumes nothing.
-use Prim.Native.Nat.{_+_}
+use Prim.Native.Nat.{ℕ, _+_}
 use mathlib.Core.Path.{_≡_, refl, sym, subst, _∙_}
-use mathlib.Core.Bool.{Bool, true}
+use mathlib.Core.Bool.{true}
 use native.Mathlib.Omega.{arith}
 use borrow.Author.Needs.{needs}
 use borrow.Author.Tests.{not-true, not-false}
 use lib.ListN.{length}
-use Rattle.machine.specs.Layout.{Image}
+use Rattle.machine.specs.Layout.{Image, none}
 use Rattle.machine.specs.Refusals.{fits}
 use Rattle.chains.specs.Notes.{Walks}
 use Rattle.admit.proofs.Admitting.{registers-stop, chain-stop, roles-stop, words-noted, noted-checked}
@@ -29,14 +29,14 @@ fit : (c : tie.Else1) → fits (image (c .before)) ≡ true
 fit c = sym (tested (c .before)) ∙ not-false _ (c .if1 .left)
 
 -- what the walk answered, under another name for its answer
-abbrev Walked : tie.After-walk → Bool → Type 0
+abbrev Walked : tie.After-walk → ℕ → Type 0
 Walked d r = let e = d .before .before .before in Walks (image e) (entry e .args .work .now) (length (entry e .args .heap .now)) r (d .walk .last .1 .1 .0)
 
 walked : (d : tie.After-walk) → Walked d (d .walk .result)
 walked d = d .walk .ensures (image (d .before .before .before)) refl refl
 
-whole-walked : (c : tie.Else2) → Walked (c .before .before .before) true
-whole-walked c = subst (Walked (c .before .before .before)) (not-false _ (c .if2 .left)) (walked (c .before .before .before))
+whole-walked : (c : tie.Else2) → Walked (c .before .before .before) none
+whole-walked c = subst (Walked (c .before .before .before)) (c .if2 .left) (walked (c .before .before .before))
 
 registers-fit-requires : tie.Need-registers-fit-requires
 registers-fit-requires c κs = search needs
@@ -49,13 +49,16 @@ walk-requires c κs =
     let e = entry (c .before .before) in
     record { registers = e .pre .sizes .least; room = e .pre .room; zero = λ i l. e .pre .blank (length (e .args .heap .now) + i) (omega arith) }
 
+cast-index : tie.Need-cast-index
+cast-index c = omega arith
+
 same-length : tie.Need-same-length
 same-length c = search needs
 
 returns-2 : tie.Need-returns-2
 returns-2 c =
     let d = c .before .before .before in
-    chain-stop (image (d .before .before .before)) _ (fit (d .before .before)) _ (subst (Walked d) (not-true _ (c .if2 .taken)) (walked d))
+    chain-stop (image (d .before .before .before)) _ (fit (d .before .before)) _ (walked d) (c .if2 .taken)
 
 apart-requires : tie.Need-apart-requires
 apart-requires c κs = search needs
@@ -66,13 +69,12 @@ same-length-2 c = search needs
 returns-3 : tie.Need-returns-3
 returns-3 c =
     let w = c .before .before .before in
-    let e = c .before .apart .ensures .1 (not-true _ (c .if3 .taken)) in
-    roles-stop (image (w .before .before .before .before .before .before)) _ (fit (w .before .before .before .before .before)) _ (whole-walked w) (e .0) (e .1) (e .2)
+    roles-stop (image (w .before .before .before .before .before .before)) _ (fit (w .before .before .before .before .before)) _ (whole-walked w) (c .before .apart .ensures) (c .if3 .taken)
 
 check-noted-requires : tie.Need-check-noted-requires
 check-noted-requires c κs =
     let w = c .before .before .before .before in
-    words-noted (image (w .before .before .before .before .before .before)) _ (fit (w .before .before .before .before .before)) _ (whole-walked w) (c .before .before .apart .ensures .0 (not-false _ (c .before .if3 .left))) (entry (w .before .before .before .before .before .before) .pre)
+    words-noted (image (w .before .before .before .before .before .before)) _ (fit (w .before .before .before .before .before)) _ (whole-walked w) (c .before .before .apart .ensures) (c .before .if3 .left) (entry (w .before .before .before .before .before .before) .pre)
 
 same-length-3 : tie.Need-same-length-3
 same-length-3 c = search needs
@@ -80,7 +82,7 @@ same-length-3 c = search needs
 returns-4 : tie.Need-returns-4
 returns-4 c =
     let w = c .before .before .before .before .before .before .before in
-    noted-checked (image (w .before .before .before .before .before .before)) _ (fit (w .before .before .before .before .before)) _ (whole-walked w) (c .before .before .before .before .before .apart .ensures .0 (not-false _ (c .before .before .before .before .if3 .left))) (entry (w .before .before .before .before .before .before) .pre) (c .before .before .check-noted .ensures)
+    noted-checked (image (w .before .before .before .before .before .before)) _ (fit (w .before .before .before .before .before)) _ (whole-walked w) (c .before .before .before .before .before .apart .ensures) (c .before .before .before .before .if3 .left) (entry (w .before .before .before .before .before .before) .pre) (c .before .before .check-noted .ensures)
 
 pub check-image-spec : {M : Type 1} → statement M
 check-image-spec =
@@ -89,6 +91,7 @@ check-image-spec =
     registers-fit-requires
     returns
     walk-requires
+    cast-index
     same-length
     returns-2
     apart-requires

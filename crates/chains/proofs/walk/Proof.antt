@@ -1,5 +1,4 @@
 -- `chains::walk` meets its contract: both chains of the control area are walked, or one is broken. Assumes nothing.
-use borrow.Author.Tests.{not-true, not-false}
 use Rattle.chains.proofs.Ends.{walk-stopped, walk-finished}
 use borrow.Author.Needs.{needs}
 use Rattle.chains.proofs.walk.Statement.{statement}
@@ -18,7 +17,7 @@ same-length : tie.Need-same-length
 same-length c = search needs
 
 returns : tie.Need-returns
-returns c = λ X p q. walk-stopped X p q (c .before .before .before .before .before .before .before .before .before .before .pre) (c .before .before .before .walk-frames .ensures) (not-true _ (c .if1 .taken))
+returns c = λ X p q. walk-stopped X p q (c .before .before .before .before .before .before .before .before .before .before .pre) (c .before .before .before .walk-frames .ensures) (c .if1 .taken)
 
 shared-slice-read-walk-points : tie.Need-shared-slice-read-walk-points
 shared-slice-read-walk-points c = search needs
@@ -36,7 +35,7 @@ same-length-2 : tie.Need-same-length-2
 same-length-2 c = search needs
 
 returns-2 : tie.Need-returns-2
-returns-2 c = λ X p q. walk-finished X p q (c .before .before .before .before .before .before .before .before .before .before .before .before .before .before .before .before .before .pre) (c .before .before .before .before .before .before .before .before .before .before .walk-frames .ensures) (not-false _ (c .before .before .before .before .before .before .before .if1 .left)) (c .before .before .walk-points .ensures)
+returns-2 c = λ X p q. walk-finished X p q (c .before .before .before .before .before .before .before .before .before .before .before .before .before .before .before .before .before .pre) (c .before .before .before .before .before .before .before .before .before .before .walk-frames .ensures) (c .before .before .before .before .before .before .before .if1 .left) (c .before .before .walk-points .ensures)
 
 pub walk-spec : {M : Type 1} → statement M
 walk-spec =

@@ -82,7 +82,7 @@ returns-2 c =
     (c .before .before .before .before .before .before .before .before .before .note-point .ensures)
     (i .before .before .before .loop .inv .0)
     (c .before .before .before .walk-frames .ensures)
-    (not-true _ (c .if2 .taken))
+    (c .if2 .taken)
 
 same-length-2 : tie.Need-same-length-2 Inv-loop μ-loop
 same-length-2 c = returns-2 c .kept .same
@@ -129,7 +129,7 @@ loop-again c =
           (c .before .before .before .before .before .before .before .before .before .before .before .before .note-point .ensures)
           (i .before .before .before .loop .inv .0)
           (c .before .before .before .before .before .before .walk-frames .ensures)
-          (not-false _ (c .before .before .before .if2 .left)),
+          (c .before .before .before .if2 .left),
     )
 
 returns-3 : tie.Need-returns-3 Inv-loop μ-loop

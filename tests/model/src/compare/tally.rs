@@ -8,7 +8,7 @@ use crate::refusal::Area;
 const NUMBERS: usize = 20;
 
 /// The refusals that name a place.
-const WITH_A_PLACE: [u32; 4] = [5, 6, 7, 17];
+const WITH_A_PLACE: [u32; 6] = [3, 4, 5, 6, 7, 17];
 const AREAS: usize = 5;
 
 #[derive(Clone, Debug, Default)]

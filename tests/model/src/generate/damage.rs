@@ -1,8 +1,10 @@
 //! Damage aimed at each refusal number in turn.
 
 use super::damage_cells::{misenter, misrefer, set_bits};
-use super::damage_chain::{break_chain, overlap};
+use super::damage_chain::break_chain;
 use super::damage_functor::name_functor;
+use super::damage_overlap::overlap;
+use super::damage_places::break_in_places;
 use crate::check::{MOST_CONTROL, MOST_HEAP, MOST_STACK, MOST_TRAIL};
 use crate::image::*;
 use crate::random::Random;
@@ -20,12 +22,13 @@ fn damage_once(random: &mut Random, image: &mut Image) {
     match random.below(100) {
         0..=3 => resize(random, image),
         4..=9 => miscount(random, image),
-        10..=26 => break_chain(random, image),
-        27..=37 => overlap(random, image),
-        38..=49 => set_bits(random, image),
-        50..=66 => misrefer(random, image),
-        67..=79 => misenter(random, image),
-        80..=94 => name_functor(random, image),
+        10..=22 => break_chain(random, image),
+        23..=29 => break_in_places(random, image),
+        30..=41 => overlap(random, image),
+        42..=52 => set_bits(random, image),
+        53..=68 => misrefer(random, image),
+        69..=80 => misenter(random, image),
+        81..=95 => name_functor(random, image),
         _ => scatter(random, image),
     }
 }

@@ -1,4 +1,4 @@
-//! Damage to chains: refusals 3 and 4, and what just passes them.
+//! Damage to chains: refusal 3, and what just passes it.
 
 use super::spot::*;
 use crate::chain::{frame_size, FRAME_CE, FRAME_WORDS};
@@ -47,7 +47,7 @@ fn point_frame(random: &mut Random, image: &mut Image, link: FrameLink) {
 }
 
 /// Makes what stands at `at` a last frame. Now and then it is left as it was.
-fn land_frame(random: &mut Random, image: &mut Image, at: usize) {
+pub fn land_frame(random: &mut Random, image: &mut Image, at: usize) {
     if at < image.stack.len() && random.percent(80) {
         Spot::Stack(at + FRAME_CE).set(image, NONE);
     }
@@ -84,7 +84,7 @@ fn point_choice_point(random: &mut Random, image: &mut Image, link: ChoiceLink) 
 }
 
 /// Makes what stands at `at` a last choice point with n saved arguments.
-fn land_choice_point(image: &mut Image, at: usize, n: u32) {
+pub fn land_choice_point(image: &mut Image, at: usize, n: u32) {
     for (field, word) in [
         (FIELD_E, NONE),
         (FIELD_B, NONE),
@@ -136,59 +136,4 @@ fn raise_boundary(random: &mut Random, image: &mut Image, link: ChoiceLink) {
         _ => newer.saturating_add(1),
     };
     Spot::Stack(at + field).set(image, word);
-}
-
-/// Lays a frame or choice point over another one.
-pub fn overlap(random: &mut Random, image: &mut Image) {
-    let Some(spots) = spots(image) else { return };
-    match random.below(4) {
-        0 => lay_frame_over(random, image),
-        1 => lay_choice_point_over(random, image),
-        2 => stretch_frame(random, image, &spots),
-        _ => {
-            // Some frame, one word off.
-            let link = random.one_of(&spots.frame_links);
-            let moved = link.e.get(image).saturating_sub(1);
-            link.e.set(image, moved);
-            land_frame(random, image, moved as usize);
-        }
-    }
-}
-
-/// A word that has a role even if the control's E (or B) were none.
-fn some_word_seen_without(random: &mut Random, image: &Image, field: usize) -> Option<usize> {
-    let mut without = image.clone();
-    without.control[field] = NONE;
-    random.maybe_one_of(&spots(&without)?.roles.with_a_role())
-}
-
-/// Moves the control's frame over something that the choice points see.
-fn lay_frame_over(random: &mut Random, image: &mut Image) {
-    let Some(word) = some_word_seen_without(random, image, FIELD_E) else {
-        return;
-    };
-    let at = word.saturating_sub(random.below(2));
-    image.control[FIELD_E] = at as u32;
-    let most = image.stack.len().saturating_sub(at + FRAME_WORDS);
-    image.control[FIELD_L] = random.below(most.min(6) + 1) as u32;
-    land_frame(random, image, at);
-}
-
-/// Moves the newest choice point over something that the control's frames have.
-fn lay_choice_point_over(random: &mut Random, image: &mut Image) {
-    let Some(word) = some_word_seen_without(random, image, FIELD_B) else {
-        return;
-    };
-    let at = word.saturating_sub(random.below(FIXED_WORDS));
-    image.control[FIELD_B] = at as u32;
-    land_choice_point(image, at, random.below(2) as u32);
-}
-
-/// Lets a view reach over the objects above its frame, up to its bound.
-fn stretch_frame(random: &mut Random, image: &mut Image, spots: &Spots) {
-    let link = random.one_of(&spots.frame_links);
-    let at = link.e.get(image) as usize;
-    let room = link.bound.saturating_sub(at + FRAME_WORDS).min(255);
-    let size = random.between(frame_size(link.l.get(image)).min(room), room);
-    link.l.set(image, size as u32);
 }

@@ -5,6 +5,8 @@ mod damage;
 mod damage_cells;
 mod damage_chain;
 mod damage_functor;
+mod damage_overlap;
+mod damage_places;
 pub mod file;
 pub mod large;
 mod layout;

@@ -63,7 +63,7 @@ pub fn spots(image: &Image) -> Option<Spots> {
     if image.control.len() < FIXED_WORDS {
         return None;
     }
-    let chains = walk(image)?;
+    let chains = walk(image).ok()?;
     let mut spots = Spots {
         roles: roles(image.stack.len(), &chains),
         frame_links: Vec::new(),

@@ -106,6 +106,11 @@ pub fn assert_refused(image: &Image, number: u32, place: Option<(Area, usize)>) 
     assert_eq!(after, *image);
 }
 
+/// Asserts that the image is refused so, at this stack index.
+pub fn assert_refused_in_stack(image: &Image, number: u32, index: usize) {
+    assert_refused(image, number, Some((Area::Stack, index)));
+}
+
 /// Asserts that the image is accepted.
 pub fn assert_accepted(image: &Image) {
     assert_eq!(collected(&mut image.clone()).err(), None);

@@ -16,18 +16,6 @@ enum-told-2 c = search needs
 placeless-requires-2 : tie.Need-placeless-requires-2
 placeless-requires-2 c κs = search needs
 
-enum-told-3 : tie.Need-enum-told-3
-enum-told-3 c = search needs
-
-placeless-requires-3 : tie.Need-placeless-requires-3
-placeless-requires-3 c κs = search needs
-
-enum-told-4 : tie.Need-enum-told-4
-enum-told-4 c = search needs
-
-placeless-requires-4 : tie.Need-placeless-requires-4
-placeless-requires-4 c κs = search needs
-
 enum-known-refusal : tie.Need-enum-known-refusal
 enum-known-refusal c = search needs
 
@@ -52,17 +40,29 @@ enum-known-refusal-4 c = search needs
 placed-requires-4 : tie.Need-placed-requires-4
 placed-requires-4 c κs = search needs
 
-enum-told-5 : tie.Need-enum-told-5
-enum-told-5 c = search needs
+enum-known-refusal-5 : tie.Need-enum-known-refusal-5
+enum-known-refusal-5 c = search needs
 
-placeless-requires-5 : tie.Need-placeless-requires-5
-placeless-requires-5 c κs = search needs
+placed-requires-5 : tie.Need-placed-requires-5
+placed-requires-5 c κs = search needs
 
-enum-told-6 : tie.Need-enum-told-6
-enum-told-6 c = search needs
+enum-known-refusal-6 : tie.Need-enum-known-refusal-6
+enum-known-refusal-6 c = search needs
 
-placeless-requires-6 : tie.Need-placeless-requires-6
-placeless-requires-6 c κs = search needs
+placed-requires-6 : tie.Need-placed-requires-6
+placed-requires-6 c κs = search needs
+
+enum-told-3 : tie.Need-enum-told-3
+enum-told-3 c = search needs
+
+placeless-requires-3 : tie.Need-placeless-requires-3
+placeless-requires-3 c κs = search needs
+
+enum-told-4 : tie.Need-enum-told-4
+enum-told-4 c = search needs
+
+placeless-requires-4 : tie.Need-placeless-requires-4
+placeless-requires-4 c κs = search needs
 
 returns : tie.Need-returns
 unfolding verdictOf
@@ -74,35 +74,35 @@ returns-2 c = rw (c .before .enum-told2 .given .1) (c .placeless2 .ensures)
 
 returns-3 : tie.Need-returns-3
 unfolding verdictOf
-returns-3 c = rw (c .before .enum-told3 .given .1) (c .placeless3 .ensures)
+returns-3 c = rw (c .before .before .refusal .given .1) (c .placed .ensures)
 
 returns-4 : tie.Need-returns-4
 unfolding verdictOf
-returns-4 c = rw (c .before .enum-told4 .given .1) (c .placeless4 .ensures)
+returns-4 c = rw (c .before .before .refusal2 .given .1) (c .placed2 .ensures)
 
 returns-5 : tie.Need-returns-5
 unfolding verdictOf
-returns-5 c = rw (c .before .before .refusal .given .1) (c .placed .ensures)
+returns-5 c = rw (c .before .before .refusal3 .given .1) (c .placed3 .ensures)
 
 returns-6 : tie.Need-returns-6
 unfolding verdictOf
-returns-6 c = rw (c .before .before .refusal2 .given .1) (c .placed2 .ensures)
+returns-6 c = rw (c .before .before .refusal4 .given .1) (c .placed4 .ensures)
 
 returns-7 : tie.Need-returns-7
 unfolding verdictOf
-returns-7 c = rw (c .before .before .refusal3 .given .1) (c .placed3 .ensures)
+returns-7 c = rw (c .before .before .refusal5 .given .1) (c .placed5 .ensures)
 
 returns-8 : tie.Need-returns-8
 unfolding verdictOf
-returns-8 c = rw (c .before .before .refusal4 .given .1) (c .placed4 .ensures)
+returns-8 c = rw (c .before .before .refusal6 .given .1) (c .placed6 .ensures)
 
 returns-9 : tie.Need-returns-9
 unfolding verdictOf
-returns-9 c = rw (c .before .enum-told5 .given .1) (c .placeless5 .ensures)
+returns-9 c = rw (c .before .enum-told3 .given .1) (c .placeless3 .ensures)
 
 returns-10 : tie.Need-returns-10
 unfolding verdictOf
-returns-10 c = rw (c .before .enum-told6 .given .1) (c .placeless6 .ensures)
+returns-10 c = rw (c .before .enum-told4 .given .1) (c .placeless4 .ensures)
 
 pub reason-of-spec : {M : Type 1} → statement M
 reason-of-spec =
@@ -112,10 +112,6 @@ reason-of-spec =
     placeless-requires
     enum-told-2
     placeless-requires-2
-    enum-told-3
-    placeless-requires-3
-    enum-told-4
-    placeless-requires-4
     enum-known-refusal
     placed-requires
     enum-known-refusal-2
@@ -124,10 +120,14 @@ reason-of-spec =
     placed-requires-3
     enum-known-refusal-4
     placed-requires-4
-    enum-told-5
-    placeless-requires-5
-    enum-told-6
-    placeless-requires-6
+    enum-known-refusal-5
+    placed-requires-5
+    enum-known-refusal-6
+    placed-requires-6
+    enum-told-3
+    placeless-requires-3
+    enum-told-4
+    placeless-requires-4
     returns
     returns-2
     returns-3
