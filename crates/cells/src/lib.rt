@@ -1,5 +1,7 @@
 // The checks of cells and trail entries: refusals 5, 6 and 7 with their places. A pass over each area, two over the heap, decides that all
 // its cells are good; number and place are looked for only if one is not.
+#![tactic(auto)]
+
 mod words; // words.rt: where one word may refer to
 mod good; // good.rt: whether every cell is good
 mod marked; // marked.rt: the lowest place for 5

@@ -1,5 +1,7 @@
 // Walks the chains of frames and choice points, from the newest, and notes the role of each stack word. A frame met before is noted in
 // the view it is met in and followed no further: its parents were noted when it was first met, and none of them was at fault.
+#![tactic(auto)]
+
 ghost use Rattle.std.specs.Prelude.{◌≡◌, ◌+◌, ◌≤◌, length};
 ghost use Rattle.machine.specs.Layout.{Image, fixed, none, size_of, frame_fixed};
 ghost use Rattle.machine.specs.Chains.{frame, point, sound};

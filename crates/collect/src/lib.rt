@@ -1,4 +1,5 @@
 // The collection: admitted, marked, slid, and the work words cleared.
+#![tactic(auto)]
 ghost use Rattle.std.specs.Prelude.{List, ℕ};
 ghost use Rattle.machine.specs.Answers.{Collects};
 ghost use Rattle.mark.specs.Marks.{Markable};

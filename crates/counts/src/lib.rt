@@ -1,4 +1,6 @@
 // Where each kept cell goes: counts in the work words, and a word or a boundary moved by them.
+#![tactic(auto)]
+
 ghost use Rattle.std.specs.Prelude.{◌≡◌, Bool, ◌++◌, ℕ, ◌-◌, ◌≤◌, length, take, drop, replicate};
 ghost use Rattle.machine.specs.Layout.{heap_most};
 ghost use Rattle.machine.specs.Moved.{below, move_word};

@@ -1,6 +1,7 @@
 // The check of refusal 17: no cell and no trail entry refers to the first cell of a STRUCT's target, but a STRUCT to its own. The first cells
 // are flagged in the heap's part of the work words, which is blank before and after. Where no structure's arguments hold another's first cell
 // the flags decide; else they are counted, so that the test of a word takes the same time whatever its arity.
+#![tactic(auto)]
 mod flags; // flags.rt: a flag for each first cell
 mod tallies; // tallies.rt: whether the structures lie apart; if not, the flags are counted
 mod words; // words.rt: whether one word covers a first cell

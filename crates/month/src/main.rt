@@ -1,4 +1,5 @@
 // The monthly report program: freeze files laid end to end on standard input, their report on standard output.
+#![tactic(auto)]
 mod held;
 mod written;
 

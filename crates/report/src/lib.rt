@@ -1,5 +1,6 @@
 // The monthly report: figures over freeze files laid end to end, as text. What is right stands in specs/, under its sentences of
 // document 02.
+#![tactic(auto)]
 mod first;
 mod lines;
 mod steps;

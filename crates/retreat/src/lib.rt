@@ -1,4 +1,5 @@
 // The step back: the trail entries since the newest choice point are undone, and the choice point becomes the control area.
+#![tactic(auto)]
 ghost use Rattle.std.specs.Prelude.{◌≡◌, [], ◌∷◌, ◌+◌, ◌≤◌, length};
 ghost use Rattle.machine.specs.Answers.{StepsBack};
 ghost use Rattle.machine.specs.Moved.{each};

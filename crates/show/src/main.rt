@@ -1,4 +1,5 @@
 // The listing program: a freeze file on standard input, its listing on standard output.
+#![tactic(auto)]
 use libc::{STDIN_FILENO, STDOUT_FILENO};
 
 fn main() {

@@ -1,4 +1,5 @@
 // The listings of many freeze files: for each file that the arguments name, a line with the name, and its listing.
+#![tactic(auto)]
 use libc::STDOUT_FILENO;
 
 // One file.

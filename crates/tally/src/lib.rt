@@ -1,4 +1,5 @@
 // The figures of a freeze file, and a running tally of them. What is right stands in specs/, under its sentences of document 02.
+#![tactic(auto)]
 mod frames;
 mod heaps;
 mod tallies;

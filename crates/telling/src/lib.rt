@@ -1,4 +1,5 @@
 // Why a heap cell is held, told as text. What is right stands in specs/.
+#![tactic(auto)]
 mod lines;
 mod number;
 mod owners;

@@ -1,4 +1,5 @@
 // Why a heap cell is held: its index as the argument, a freeze file on standard input, the text on standard output.
+#![tactic(auto)]
 use libc::{STDIN_FILENO, STDOUT_FILENO};
 use telling::Asked;
 

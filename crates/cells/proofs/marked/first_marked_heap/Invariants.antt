@@ -1,0 +1,11 @@
+-- `cells::marked::first_marked_heap` meets its contract: the loop looks for the first bad index. Assumes nothing.
+use Prim.Native.Nat.{◌-◌}
+use Rattle.cells.specs.Cells.{marked_in}
+use Rattle.cells.proofs.Seeking.{Seeking}
+use Rattle.cells.proofs.marked.first_marked_heap.Given as goal
+
+abbrev pub invariant-loop-i : goal.invariant-loop-i
+invariant-loop-i l = Seeking (marked_in l.heap) l.h l.i
+
+abbrev pub decreases-loop-i : goal.decreases-loop-i
+decreases-loop-i l = l.h - l.i

@@ -1,0 +1,11 @@
+-- `cells::wrong::first_wrong_control` meets its contract: the loop looks for the first bad index. Assumes nothing.
+use Prim.Native.Nat.{◌-◌}
+use Rattle.cells.specs.Cells.{wrong_argument}
+use Rattle.cells.proofs.Seeking.{Seeking}
+use Rattle.cells.proofs.wrong.first_wrong_control.Given as goal
+
+abbrev pub invariant-loop-i : goal.invariant-loop-i
+invariant-loop-i l = Seeking (wrong_argument l.heap l.h l.count l.work l.notes l.control) l.n l.i
+
+abbrev pub decreases-loop-i : goal.decreases-loop-i
+decreases-loop-i l = l.n - l.i

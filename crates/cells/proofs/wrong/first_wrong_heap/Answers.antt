@@ -1,0 +1,21 @@
+use Prim.Native.Nat.{◌-◌}
+use mathlib.Core.Path.{sym, ap, ◌∙◌}
+use mathlib.Core.Bool.{not}
+use native.Mathlib.Omega.{arith}
+use Rattle.cells.specs.Cells.{wrong_heap}
+use Rattle.cells.proofs.Seeking.{seek-none, seek-more, seek_found, seek-end}
+use Rattle.cells.proofs.wrong.first_wrong_heap.Goals as goal
+
+pub loop-i-init : goal.loop-i-init
+loop-i-init c = seek-none _ _
+
+pub returns-then-not-refers_well : goal.returns-then-not-refers_well
+unfolding wrong_heap
+returns-then-not-refers_well c = seek_found c.loop-i.invariant (omega arith) (ap not (sym c.refers_well.ensures) ∙ c.if-not-refers_well.true-raw)
+
+pub loop-i-preserved : goal.loop-i-preserved
+unfolding wrong_heap
+loop-i-preserved c = seek-more c.loop-i.invariant (omega arith) (ap not (sym c.refers_well.ensures) ∙ c.if-not-refers_well.false-raw)
+
+pub returns : goal.returns
+returns c = seek-end c.loop-i.invariant (omega arith)
