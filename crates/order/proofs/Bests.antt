@@ -46,7 +46,7 @@ module _ {heap : List ℕ} {word : ℕ → ℕ} {roots : ℕ} {cells from : List
         | no m ↦ subst (λ (z : List ℕ). NotAfter (r ∷ path) z) (same-path (omega arith) p p') (after-refl (r ∷ path))
       ]
 
-  pub path-best : {j r s x : ℕ} {path line : List ℕ} → Path roots cells from j r path → Line heap word roots s line x → get_or cells j 0 ≡ x → NotAfter (r ∷ path) (s ∷ line)
+  pub path-best : {s j r x : ℕ} {path line : List ℕ} → Path roots cells from j r path → Line heap word roots s line x → get_or cells j 0 ≡ x → NotAfter (r ∷ path) (s ∷ line)
   path-best {s = s} (by_root {j = j} a m) (direct {x = x} l f) e =
       let b = from_first q j s a (rw (source-root heap word roots cells s l, e) f) in
       elim (ℕ_discrete (get_or from j 0) s) [
@@ -61,4 +61,4 @@ module _ {heap : List ℕ} {word : ℕ → ℕ} {roots : ℕ} {cells from : List
       let at = line-place q d in
       let t = path-exists q at.0 at.1 in
       let b = from_first q j (roots + at.0) a (rw (source-at q at.0 at.2, e) f) in
-      rw e (after_more (r ∷ path) (s ∷ line) x (after-trans (r ∷ path) (t.0 ∷ t.1) (s ∷ line) (path-after (omega arith) p t.2) (path-best t.2 d at.2)))
+      rw e (after_more (r ∷ path) (s ∷ line) x (after-trans (r ∷ path) (t.0 ∷ t.1) (s ∷ line) (path-after (omega arith) p t.2) (path-best {j = at.0} t.2 d at.2)))

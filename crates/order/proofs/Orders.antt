@@ -1,7 +1,7 @@
 -- The order of chains: by length, and among equals by the first place that differs. It is an order, and both its forms, strict and not, go on
 -- when one more place is put at the end. By the places from the front. Assumes nothing.
 use Prim.Native.Nat.{ℕ, ◌<◌}
-use mathlib.Core.Path.{◌≡◌, refl, ap}
+use mathlib.Core.Path.{sym, ◌≡◌, refl, ap}
 use mathlib.Core.Logic.{◌⊎◌, inl, inr}
 use mathlib.Core.List.{List, [], ◌∷◌, ◌++◌}
 use native.Mathlib.Omega.{arith}
@@ -19,12 +19,32 @@ above-trans (lower l) (same q) = lower l
 above-trans (same p) (lower m) = lower m
 above-trans (same p) (same q) = same (above-trans p q)
 
+-- the two ways round are taken between lists that are equal, so that both can be looked into at once
+above-both : {xs ys zs ws : List ℕ} → NotAbove xs ys → NotAbove ws zs → xs ≡ zs → ys ≡ ws → xs ≡ ys
+above-both ended ended e f = sym f
+above-both ended (lower m) e f = cc
+above-both ended (same q) e f = cc
+above-both (lower l) ended e f = cc
+above-both (lower {x = x} {y = y} l) (lower {x = z} {y = w} m) e f =
+    let p : x ≡ w = cc in
+    let q : y ≡ z = cc in
+    absurd (omega arith)
+above-both (lower {x = x} {y = y} l) (same {x = z} r) e f =
+    let p : x ≡ z = cc in
+    let q : y ≡ z = cc in
+    absurd (omega arith)
+above-both (same p) ended e f = cc
+above-both (same {x = x} r) (lower {x = z} {y = w} m) e f =
+    let p : x ≡ w = cc in
+    let q : x ≡ z = cc in
+    absurd (omega arith)
+above-both (same {x = x} {xs = xs} {ys = ys} p) (same {xs = ws} {ys = zs} q) e f =
+    let g : xs ≡ zs = cc in
+    let h : ys ≡ ws = cc in
+    ap (λ (l : List ℕ). x ∷ l) (above-both p q g h)
+
 pub above-antisym : {xs ys : List ℕ} → NotAbove xs ys → NotAbove ys xs → xs ≡ ys
-above-antisym ended ended = refl
-above-antisym (lower l) (lower m) = absurd (omega arith)
-above-antisym (lower l) (same q) = absurd (omega arith)
-above-antisym (same p) (lower m) = absurd (omega arith)
-above-antisym (same {x = x} p) (same q) = ap (λ (l : List ℕ). x ∷ l) (above-antisym p q)
+above-antisym p q = above-both p q refl refl
 
 -- one more place at the end of both
 pub above_more : {xs ys : List ℕ} (z : ℕ) → length xs ≡ length ys → NotAbove xs ys → NotAbove (xs ++ (z ∷ [])) (ys ++ (z ∷ []))

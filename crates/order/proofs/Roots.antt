@@ -116,7 +116,7 @@ module _ {X : Image} {word : ℕ → ℕ} {roots : ℕ} (o : RootsOf X word root
   root-number (in_control i l) = (i, saved i l, omega (arith, o.count), o.saved i l)
   root-number (on_stack i e) = let b = o.inside i e in (reg X N + i, cell i, omega (arith, o.count), o.cell i b e)
 
-  pub chain-line : {x : ℕ} {area : Area} {index : ℕ} {cells : List ℕ} → Chain X area index cells x → (s : ℕ) × Stands X s area index × Line X.heap word roots s cells x
+  pub chain-line : {area : Area} {index : ℕ} {x : ℕ} {cells : List ℕ} → Chain X area index cells x → (s : ℕ) × Stands X s area index × Line X.heap word roots s cells x
   chain-line (direct {x = x} r f) = let t = root-number r in (t.0, t.1, Line.direct t.2 (subst (λ (w : ℕ). Refers X.heap w x) (sym t.3) f))
   chain-line (onward c f) = let t = chain-line c in (t.0, t.1, Line.onward t.2 f)
 

@@ -7,7 +7,12 @@ use Rattle.machine.proofs.Firsts.{refused-not, all_first}
 use Rattle.cells.specs.Cells.{checked_to}
 use Rattle.cells.proofs.Areas.{finds, passes}
 use Rattle.cells.proofs.Bridge.{entries-bridge}
+use borrow.Author.Rules.{rules}
 use Rattle.cells.proofs.check_entries.Goals as goal
+
+pub first_wrong_entry-i-requires : goal.first_wrong_entry-i-requires
+unfolding field
+first_wrong_entry-i-requires c = search rules
 
 pub returns-then-i-t : goal.returns-then-i-t
 unfolding field checked_to verdict_of

@@ -15,7 +15,7 @@ returns-then-met c = search walked-again
 
 pub loop-next-preserved : goal.loop-next-preserved
 loop-next-preserved c =
-    (omega arith, omega (arith, c.shared_slice_known-in-loop-next-2-1.ensures (c.loop-next.next + link_place)), search walking-frame)
+    (omega arith, omega (arith, c.type_inv.stack (c.loop-next.next + link_place)), search walking-frame)
 
 pub returns : goal.returns
 returns c = search walked_none

@@ -98,7 +98,7 @@ loop-next-smaller c = omega (arith, inside (goal.at.loop-next-smaller c).Else-no
 pub loop-next-preserved : goal.loop-next-preserved
 loop-next-preserved c = (
   omega (arith, inside (goal.at.loop-next-preserved c).Else-not-point_sound),
-  omega (arith, c.shared_slice_known-in-loop-next-4-1.ensures (c.loop-next.next + place_of B)),
+  omega (arith, c.type_inv.stack (c.loop-next.next + place_of B)),
   walking-point
       c.loop-next.invariant.2
       c.loop-next-test.true

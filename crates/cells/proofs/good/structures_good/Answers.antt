@@ -1,7 +1,6 @@
 use Prim.Native.Nat.{◌-◌, ◌<◌}
 use mathlib.Core.Path.{◌≡◌, refl, sym, ap, ◌∙◌}
 use mathlib.Core.Bool.{true, not}
-use mathlib.Core.Logic.{⊎_elim}
 use native.Mathlib.Omega.{arith}
 use borrow.Author.Tests.{not-true, not-false}
 use lib.ListN.{get_or}
@@ -11,7 +10,7 @@ use Rattle.cells.specs.Cells.{last_of, wrong_heap}
 use Rattle.cells.proofs.Refers.{value-near, near-struct, near-well, near-iff}
 use Rattle.cells.proofs.Seeking.{clean-none, clean-more, clean_end}
 use Rattle.cells.proofs.good.structures_good.Goals as goal
-use Rattle.cells.proofs.good.structures_good.Goals.{After-value-v, In-loop-i, Joined-tag-eq-STRUCT}
+use Rattle.cells.proofs.good.structures_good.Goals.{After-value-v, In-loop-i, Joined-tag-eq-STRUCT, then-tag-eq-STRUCT+else-not-functor_good, else-tag-eq-STRUCT}
 
 -- the cell's last cell lies below h
 near : (c : In-loop-i) → last_of (get_or c.args.heap.now c.loop-i.i 0) < c.args.h
@@ -19,16 +18,16 @@ near c = (near-iff _ _ _).0 (c.requires.2.well c.loop-i.i (omega arith))
 
 -- and so does a functor
 below : (c : After-value-v) → c.value-v.result < c.args.h
-below c = omega (arith, value-near _ (λ e. omega arith) (near (UP c In-loop-i)))
+below c = omega (arith, value-near _ (λ e. omega arith) ((near-iff _ _ _).0 (c.requires.2.well c.loop-i.i (omega arith))))
 
 -- after a turn that went on its cell refers well, a STRUCT by its functor and any other word by its last cell
 well : (c : Joined-tag-eq-STRUCT) → refers_well c.args.h c.args.heap.now (get_or c.args.heap.now c.loop-i.i 0) ≡ true
 well c =
-    let l = near (UP c In-loop-i) in
-    ⊎_elim
-    (λ w. near-struct _ _ _ l (omega arith) w.1.ensures ∙ sym w.2.ensures ∙ not-false _ w.3.left)
-    (λ w. near-well _ _ _ l (λ e. omega arith) (omega arith))
-    c.if-tag-eq-STRUCT.branch
+    let l = (near-iff _ _ _).0 (c.requires.2.well c.loop-i.i (omega arith)) in
+    elim c.if-tag-eq-STRUCT.branch [
+      | then-tag-eq-STRUCT+else-not-functor_good w ↦ near-struct _ _ _ l (omega arith) w.value-v.ensures ∙ sym w.functor_good.ensures ∙ not-false _ w.if-not-functor_good.false-raw
+      | else-tag-eq-STRUCT w ↦ near-well _ _ _ l (λ e. omega arith) (omega arith)
+    ]
 
 pub loop-i-init : goal.loop-i-init
 loop-i-init c = (omega arith, clean-none _ _)

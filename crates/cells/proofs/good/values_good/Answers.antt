@@ -1,7 +1,7 @@
 use Prim.Native.Nat.{ℕ, ◌-◌, ◌≤◌, ◌<◌}
 use mathlib.Core.Path.{◌≡◌, refl}
 use mathlib.Core.Logic.Iff
-use mathlib.Core.Logic.{◌↔◌, ⊎_elim}
+use mathlib.Core.Logic.{◌↔◌}
 use native.Mathlib.Omega.{arith}
 use borrow.Author.Tests.{eqb-true, eq-eqb}
 use lib.ListN.{get_or}
@@ -12,17 +12,14 @@ use Rattle.cells.proofs.Refers.{near-iff}
 use Rattle.cells.proofs.Seeking.{clean-none, clean_end, count-more}
 use borrow.Author.Rules.{rules}
 use Rattle.cells.proofs.good.values_good.Goals as goal
-use Rattle.cells.proofs.good.values_good.Goals.{Joined-word-ne0}
+use Rattle.cells.proofs.good.values_good.Goals.{Joined-word-ne0, then-limit-last_of, else-limit-last_of, then-word-ne0, else-word-ne0}
 
--- the word of a turn, and what it adds: 1 for a last cell that is not below h, 1 for bits that are set
-abbrev word : tie.After-row-known2 invariant-loop decreases-loop → ℕ
-word c = get_or c.before.before.before.before.before.before.before.before.before.args.heap.now c.before.before.before.before.before.before.before.loop.i 0
+-- what the word of a turn adds: 1 for a last cell that is not below h, 1 for bits that are set
+far-one : (c : Joined-word-ne0) → (c.if-limit-last_of.far ≤ 1) × ((c.if-limit-last_of.far ≡ 0) ↔ (last_of (get_or c.args.heap.now c.loop-i.i 0) < c.args.h))
+far-one c = elim c.if-limit-last_of.branch [ then-limit-last_of w ↦ search rules | else-limit-last_of w ↦ search rules ]
 
-far-one : (c : Joined-word-ne0) → (c.if-limit-last_of.far ≤ 1) × ((c.if-limit-last_of.far ≡ 0) ↔ (last_of (word c) < c.args.h))
-far-one c = ⊎_elim (λ w. search rules) (λ w. search rules) c.if-limit-last_of.branch
-
-bits-one : (c : Joined-word-ne0) → (c.if-word-ne0.bits ≤ 1) × ((c.if-word-ne0.bits ≡ 0) ↔ (bits_of (word c) ≡ 0))
-bits-one c = ⊎_elim (λ w. search rules) (λ w. search rules) c.if-word-ne0.branch
+bits-one : (c : Joined-word-ne0) → (c.if-word-ne0.bits ≤ 1) × ((c.if-word-ne0.bits ≡ 0) ↔ (bits_of (get_or c.args.heap.now c.loop-i.i 0) ≡ 0))
+bits-one c = elim c.if-word-ne0.branch [ then-word-ne0 w ↦ search rules | else-word-ne0 w ↦ search rules ]
 
 pub loop-i-init : goal.loop-i-init
 loop-i-init c = (omega arith, omega arith, (λ e. clean-none _ _, λ e. refl))
