@@ -1,6 +1,7 @@
 // Freeze files: one record, a file read into four lent areas, four areas written as a file. What is right stands in specs/, under
 // its sentences of document 01.
 #![tactic(auto)]
+
 pub mod held;
 mod kinds;
 mod reading;

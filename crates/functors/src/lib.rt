@@ -2,6 +2,7 @@
 // are flagged in the heap's part of the work words, which is blank before and after. Where no structure's arguments hold another's first cell
 // the flags decide; else they are counted, so that the test of a word takes the same time whatever its arity.
 #![tactic(auto)]
+
 mod flags; // flags.rt: a flag for each first cell
 mod tallies; // tallies.rt: whether the structures lie apart; if not, the flags are counted
 mod words; // words.rt: whether one word covers a first cell

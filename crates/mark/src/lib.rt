@@ -1,5 +1,6 @@
 // Marking by a pending stack that is linked through the work words: one word a heap cell holds both its mark and its link.
 #![tactic(auto)]
+
 ghost use Rattle.std.specs.Prelude.{◌≡◌, ℕ, ◌+◌, ◌<◌, ◌≤◌, length, take};
 ghost use Rattle.cell.specs.Word.{Refers};
 ghost use Rattle.machine.specs.Layout.{N, fixed, field, heap_most};

@@ -1,5 +1,6 @@
 // Slides each area: the heap closes up over dropped cells, the trail over dropped entries, and every reference and boundary follows.
 #![tactic(auto)]
+
 ghost use Rattle.std.specs.Prelude.{◌≡◌, Bool, ℕ, ◌+◌, ◌-◌, ◌<◌, ◌≤◌, length, get_or};
 ghost use Rattle.machine.specs.Moved.{below, move_word, each, close_up};
 ghost use Rattle.counts.specs.Counts.{Counting, Low};

@@ -1,6 +1,7 @@
 // Bytes, numbers in decimal and lines of numbers into a lent output, each from a place on; what has no room is left out.
 // What is right stands in specs/.
 #![tactic(auto)]
+
 ghost use Rattle.std.specs.Prelude.{[], ◌∷◌, ◌≡◌, min, take};
 ghost use Rattle.text.specs.Decimal.{decimal};
 ghost use Rattle.text.specs.Line.{spaced, numbers, line};
