@@ -1,5 +1,6 @@
 // The table of refusals 1 to 7 and 17, in the order of checks. What passes leaves its notes in the work words.
 #![tactic(auto)]
+
 ghost use Rattle.std.specs.Prelude.{◌≡◌, ◌≤◌, length};
 ghost use Rattle.machine.specs.Layout.{Image, fixed};
 ghost use Rattle.machine.specs.Refusals.{fits};

@@ -1,5 +1,6 @@
 // The breadth-first search from the roots, in the work words below H: the queue of the cells met, where its levels begin, and which cells are met.
 #![tactic(auto)]
+
 ghost use Rattle.std.specs.Prelude.{◌≡◌, ◌&&◌, ℕ, ◌+◌, ◌<◌, ◌≤◌, length, get_or, take, eqb, leb, ltb};
 ghost use Rattle.cell.specs.Word.{STRUCT, value_of, tag_of, extent};
 ghost use Rattle.machine.specs.Layout.{N, fixed, field, argument};
