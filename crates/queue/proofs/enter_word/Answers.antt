@@ -15,4 +15,4 @@ enter_range-requires c =
     (c.requires.0, omega arith, λ x r. c.requires.2 x (omega arith))
 
 pub returns : goal.returns
-returns c = rw (c.value.ensures, c.end_of_lem.ensures) at c.enter_range.ensures
+returns c = rw (c.value.ensures, c.end_of.ensures) at c.enter_range.ensures

@@ -6,12 +6,6 @@ use Rattle.mark.proofs.Marking.{front_length}
 use Rattle.queue.proofs.Filling.{arguments-readable, arguments-keep-length, cells-readable, cells-keep-length, cells-keep-front, queue-readable, no-level, filled}
 use Rattle.queue.proofs.fill.Goals as goal
 
-abbrev start : tie.After-enter-arguments → tie.Start
-start c = c.before.before.before.before.before.before.before
-
-abbrev arguments : tie.After-enter-cells → tie.After-enter-arguments
-arguments c = c.before.before.before.before
-
 pub slice_bounds-enter_arguments-end : goal.slice_bounds-enter_arguments-end
 unfolding field
 slice_bounds-enter_arguments-end c = omega arith
@@ -29,30 +23,26 @@ enter_arguments-t-requires c =
 pub enter_cells-u-requires : goal.enter_cells-u-requires
 unfolding field
 enter_cells-u-requires c =
-    let k = (start (PLACE c After-enter_arguments-t)).requires in
-    ((rw (arguments-keep-length k c.enter_arguments-t.ensures) k.room, k.top), cells-readable k c.enter_arguments-t.ensures)
+    let k = c.requires in
+    record { stack_in_bounds = (rw (arguments-keep-length k c.enter_arguments-t.ensures) k.room, k.top); readable = cells-readable k c.enter_arguments-t.ensures }
 
 pub slice_bounds-follow-end : goal.slice_bounds-follow-end
 unfolding field
 slice_bounds-follow-end c =
-    let p = arguments (PLACE c After-enter_cells-u) in
-    omega (arith, cells-keep-length (start p).pre p.enter-arguments.ensures c.enter_cells-u.ensures)
+    omega (arith, cells-keep-length c.requires c.enter_arguments-t.ensures c.enter_cells-u.ensures)
 
 pub slice_bounds-follow-end-2 : goal.slice_bounds-follow-end-2
 unfolding field
 slice_bounds-follow-end-2 c =
-    let p = arguments (PLACE c After-enter_cells-u) in
-    sym (cells-keep-front (start p).pre p.enter-arguments.ensures c.enter_cells-u.ensures)
+    sym (cells-keep-front c.requires c.enter_arguments-t.ensures c.enter_cells-u.ensures)
 
 pub follow-requires : goal.follow-requires
 unfolding field
 follow-requires c =
-    let p = arguments (PLACE c After-enter_cells-u) in
-    let k = (start p).pre in
-    (queue-readable k p.enter-arguments.ensures c.enter_cells-u.ensures, no-level k p.enter-arguments.ensures c.enter_cells-u.ensures)
+    let k = c.requires in
+    (queue-readable k c.enter_arguments-t.ensures c.enter_cells-u.ensures, no-level k c.enter_arguments-t.ensures c.enter_cells-u.ensures)
 
 pub returns : goal.returns
 unfolding field
 returns c =
-    let p = arguments (PLACE c After-enter_cells-u) in
-    filled (start p).pre p.enter-arguments.ensures c.enter_cells-u.ensures c.follow.auto.1.0 c.follow.ensures
+    filled c.requires c.enter_arguments-t.ensures c.enter_cells-u.ensures c.follow.auto.queue c.follow.ensures

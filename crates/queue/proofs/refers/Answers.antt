@@ -8,4 +8,4 @@ pub returns-then-x-value : goal.returns-then-x-value
 returns-then-x-value c = let a = c.args in rw (lt-leb (value_of a.word) a.x (omega arith))
 
 pub returns : goal.returns
-returns c = let a = c.args in rw (le-leb (value_of a.word) a.x (omega arith), c.end_of_lem.ensures)
+returns c = let a = c.args in rw (le-leb (value_of a.word) a.x (omega arith), c.end_of.ensures)
