@@ -65,7 +65,7 @@ pub extern "C" fn bik_why_held(
     cell: u32,
     room: &mut [u32],
 ) -> BikHeld
-    ensures { ExplainsForC (record { control = control.entry.now; stack = stack.now; heap = heap.now; trail = trail.now }) work.old cell room.old result work.new room.new }
+    ensures { ExplainsForC (record { control = control.now; stack = stack.now; heap = heap.now; trail = trail.now }) work.old cell room.old result work.new room.new }
 {
     told(holder::why_held(control, stack, heap, trail, work, cell, room))
 }
