@@ -27,8 +27,8 @@ fn close_up(
     work: &[u32],
     total: u32,
 ) -> Collected
-    requires { Slidable (record { control = control.now; stack = stack.old; heap = heap.old; trail = trail.old }) work.now total }
-    ensures { Closes (record { control = control.old; stack = stack.old; heap = heap.old; trail = trail.old }) (record { control = control.exit.now; stack = stack.new; heap = heap.new; trail = trail.new }) result }
+    requires { Slidable (record { control = control.old; stack = stack.old; heap = heap.old; trail = trail.old }) work.now total }
+    ensures { Closes (record { control = control.old; stack = stack.old; heap = heap.old; trail = trail.old }) (record { control = control.new; stack = stack.new; heap = heap.new; trail = trail.new }) result }
 {
     let top = control[H] as usize;
     let t = control[T] as usize;
@@ -56,7 +56,7 @@ pub fn collect(
     trail: &mut [u32],
     work: &mut [u32],
 ) -> Collected
-    ensures { Collects (record { control = control.old; stack = stack.old; heap = heap.old; trail = trail.old }) work.old result (record { control = control.exit.now; stack = stack.new; heap = heap.new; trail = trail.new }) work.new }
+    ensures { Collects (record { control = control.old; stack = stack.old; heap = heap.old; trail = trail.old }) work.old result (record { control = control.new; stack = stack.new; heap = heap.new; trail = trail.new }) work.new }
 {
     let checked = admit::admit(control, stack, heap, trail, work);
     if let Checked::Refused(refusal) = checked {

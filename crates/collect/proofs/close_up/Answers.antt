@@ -13,7 +13,7 @@ use Rattle.collect.proofs.close_up.Goals as goal
 use Rattle.collect.proofs.close_up.Goals.{After-slide_trail-kept}
 
 -- what `slide_trail` has left, for the cells that are kept
-slid : (c : After-slide_trail-kept) → let a = c.args in TrailSlid c.requires.cells a.trail.now a.stack.now a.work.now (length a.heap.now) (get_or a.control.now (place_of T) 0) c.slide_trail-kept.new.0 c.slide_trail-kept.new.1.0 c.slide_trail-kept.result
+slid : (c : After-slide_trail-kept) → let a = c.args in TrailSlid c.requires.cells a.trail.now a.stack.now a.work.now (length a.heap.now) (get_or a.control.now (place_of T) 0) c.slide_trail-kept.new.trail c.slide_trail-kept.new.stack c.slide_trail-kept.result
 unfolding field
 slid c = let p = c.requires in c.slide_trail-kept.ensures p.cells p.counting
 
@@ -56,7 +56,7 @@ unfolding field
 returns c =
     let p = c.requires in
     closes p _ _ _ _ _ (record {
-      stack₁ = c.slide_trail-kept.new.1.0;
+      stack₁ = c.slide_trail-kept.new.stack;
       slid = slid (goal.at.returns c).After-slide_trail-kept;
       stack_is = c.slide_stack.ensures p.cells p.counting p.total;
       control-is = c.slide_control.ensures p.cells p.counting;
