@@ -1,5 +1,6 @@
 // Why a heap cell is held: the shortest chain from a root down to it, and among equals the one with the lowest places.
 #![tactic(auto)]
+
 mod chain; // chain.rt: the chain, traced back through the queue
 mod root; // root.rt: the root that it starts from
 

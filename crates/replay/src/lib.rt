@@ -1,5 +1,6 @@
 // Runs a schedule of collections and steps back over lent areas: demand 3 as the two entries themselves meet it.
 #![tactic(auto)]
+
 ghost use Rattle.replay.specs.Replays.{Calls, Replays};
 
 use machine::{Collected, Stepped};
