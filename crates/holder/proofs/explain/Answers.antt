@@ -22,9 +22,6 @@ not-met c = eqb-false _ _ (sym c.is_met.ensures ∙ not-true _ c.if-not-is_met.t
 met : (c : Else-not-is_met) → met_bit (get_or c.fill-tail.new.work c.args.x 0) ≡ 1
 met c = eqb-true _ _ (sym c.is_met.ensures ∙ not-false _ c.if-not-is_met.false-raw)
 
--- LOST cast-if1 : tie.Need-overflow-cast-if1
--- cast-if1 c = omega (arith, c.shared-slice-known4.given 5)
-
 pub returns-then-control-x : goal.returns-then-control-x
 unfolding field
 returns-then-control-x c = λ trail r. explained-none (omega arith)
@@ -36,12 +33,12 @@ pub bounds-work-x : goal.bounds-work-x
 bounds-work-x c = omega (arith, low (goal.at.bounds-work-x c).After-fill-tail, c.requires.top, c.requires.room, c.fill-tail.ensures.same)
 
 pub returns-then-not-is_met : goal.returns-then-not-is_met
-returns-then-not-is_met c = λ trail r. explained-dead r c.fill-tail.ensures (low (goal.at.returns-then-not-is_met c).After-fill-tail) (not-met c)
+returns-then-not-is_met c = λ trail r. explained-dead r c.fill-tail.ensures (low (goal.at.returns-then-not-is_met c).After-fill-tail) (not-met (goal.at.returns-then-not-is_met c).Then-not-is_met)
 
 pub held-requires : goal.held-requires
 held-requires c =
-    searched c.requires c.fill.ensures ((c.fill.ensures.met c.args.x (low (goal.at.held-requires c).After-fill-tail)).0 (met (goal.at.held-requires c).Else-not-is_met))
+    searched c.requires c.fill-tail.ensures ((c.fill-tail.ensures.met c.args.x (low (goal.at.held-requires c).After-fill-tail)).0 (met (goal.at.held-requires c).Else-not-is_met))
 
 pub returns : goal.returns
 returns c =
-    λ trail r. explained-held r c.fill.ensures (low (goal.at.returns c).After-fill-tail) c.held.ensures
+    λ trail r. explained-held r c.fill-tail.ensures (low (goal.at.returns c).After-fill-tail) c.held.ensures

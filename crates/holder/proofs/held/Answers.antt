@@ -14,13 +14,10 @@ returns-then-room-length c =
 
 pub trace-requires : goal.trace-requires
 trace-requires c =
-    ((traceable-part c.requires.traceable (place_found c.requires c.place_of-j.ensures).0, c.depth-length.ensures), omega arith)
+    record { traceable = (traceable-part c.requires.traceable (place_found c.requires c.place_of-j.ensures).0, c.depth-length.ensures); n_in_bounds = omega arith }
 
 pub bounds-room-0 : goal.bounds-room-0
 bounds-room-0 c = traced-long c.trace.ensures
-
--- LOST cast-root-of : tie.Need-overflow-cast-root-of
--- cast-root-of c = omega (arith, c.slice-known3.given 0)
 
 pub returns : goal.returns
 returns c =

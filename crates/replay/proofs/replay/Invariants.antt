@@ -7,7 +7,7 @@ use Rattle.replay.proofs.Turning.{Replaying}
 use Rattle.replay.proofs.replay.Given as goal
 
 abbrev pub invariant-loop-i : goal.invariant-loop-i
-invariant-loop-i l = Replaying l.calls (record { l.control = l.initial.control; l.stack = l.initial.stack; l.heap = l.initial.heap; l.trail = l.initial.trail }) l.initial.work l.i (record { l.control = l.control; l.stack = l.stack; l.heap = l.heap; l.trail = l.trail }) l.work × (length l.control ≡ length l.initial.control) × (length l.stack ≡ length l.initial.stack) × (length l.heap ≡ length l.initial.heap) × (length l.trail ≡ length l.initial.trail) × (length l.work ≡ length l.initial.work)
+invariant-loop-i l = Replaying l.calls (record { control = l.initial.control; stack = l.initial.stack; heap = l.initial.heap; trail = l.initial.trail }) l.initial.work l.i (record { control = l.control; stack = l.stack; heap = l.heap; trail = l.trail }) l.work × (length l.control ≡ length l.initial.control) × (length l.stack ≡ length l.initial.stack) × (length l.heap ≡ length l.initial.heap) × (length l.trail ≡ length l.initial.trail) × (length l.work ≡ length l.initial.work)
 
 abbrev pub decreases-loop-i : goal.decreases-loop-i
 decreases-loop-i l = length l.calls - l.i

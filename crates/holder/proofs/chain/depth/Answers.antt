@@ -1,6 +1,5 @@
-use Prim.Native.Nat.{ℕ, suc, ◌+◌, ◌-◌}
+use Prim.Native.Nat.{ℕ, suc, ◌+◌}
 use mathlib.Core.Path.{◌≡◌, sym, ap, subst, ◌∙◌}
-use mathlib.Core.Logic.{inl, inr}
 use native.Mathlib.Omega.{arith}
 use native.Mathlib.Numerals.{add-one}
 use borrow.Author.Tests.{eqb-true, eqb-false}
@@ -8,6 +7,7 @@ use Rattle.order.specs.Levels.{levels}
 use Rattle.order.proofs.Levels.{levels-more}
 use Rattle.queue.specs.Filled.{begins_at}
 use Rattle.holder.proofs.chain.depth.Goals as goal
+use Rattle.holder.proofs.chain.depth.Goals.{then-begins_level, else-begins_level}
 
 pub loop-i-init : goal.loop-i-init
 unfolding levels
@@ -19,11 +19,11 @@ loop-i-preserved c =
     let more = levels-more (begins_at w) c.loop-i.i in
     let next : levels (begins_at w) (c.loop-i.i + 1) ≡ levels (begins_at w) (suc c.loop-i.i) = ap (levels (begins_at w)) (add-one c.loop-i.i) in
     elim c.if-begins_level.branch [
-      | inl t ↦
-          let q = eqb-true (begins_at w c.loop-i.i) 1 (sym c.begins_level.ensures ∙ t.0.taken) in
+      | then-begins_level t ↦
+          let q = eqb-true (begins_at w c.loop-i.i) 1 (sym c.begins_level.ensures ∙ t.if-begins_level.true) in
           omega arith
-      | inr t ↦
-          let q = eqb-false (begins_at w c.loop-i.i) 1 (sym c.begins_level.ensures ∙ t.0.left) in
+      | else-begins_level t ↦
+          let q = eqb-false (begins_at w c.loop-i.i) 1 (sym c.begins_level.ensures ∙ t.if-begins_level.false) in
           omega arith
     ]
 

@@ -1,5 +1,4 @@
 -- `holder::chain::trace` meets its contract: before each turn the end of the chain is written. Assumes nothing.
-use Prim.Native.Nat.{◌-◌}
 use Rattle.holder.proofs.Tracing.{Tracing}
 use Rattle.holder.proofs.chain.trace.Given as goal
 

@@ -1,8 +1,6 @@
-use Prim.Native.Nat.{◌-◌}
 use mathlib.Core.Path.{sym, ◌∙◌}
 use native.Mathlib.Omega.{arith}
 use Rattle.cells.proofs.Seeking.{seek-none, seek-more, seek_found, seek-end}
-use Rattle.holder.specs.Tracing.{cell_refers}
 use Rattle.holder.proofs.root.first_cell.Goals as goal
 
 pub loop-i-init : goal.loop-i-init
