@@ -37,15 +37,14 @@ fn collected(answer: Collected) -> BikCollected
 }
 
 // Collects: `collect::collect` for C.
-#[unsafe(no_mangle)]
-pub extern "C" fn bik_collect(
+pub fn bik_collect(
     control: &mut [u32],
     stack: &mut [u32],
     heap: &mut [u32],
     trail: &mut [u32],
     work: &mut [u32],
 ) -> BikCollected
-    ensures { CollectsForC (record { control = control.entry.now; stack = stack.old; heap = heap.old; trail = trail.old }) work.old result (record { control = control.exit.now; stack = stack.new; heap = heap.new; trail = trail.new }) work.new }
+    ensures { CollectsForC (record { control = control.old; stack = stack.old; heap = heap.old; trail = trail.old }) work.old result (record { control = control.new; stack = stack.new; heap = heap.new; trail = trail.new }) work.new }
 {
     collected(collect::collect(control, stack, heap, trail, work))
 }
@@ -74,15 +73,14 @@ fn stepped(answer: Stepped) -> BikStepped
 }
 
 // Steps back to the newest choice point: `retreat::step_back` for C.
-#[unsafe(no_mangle)]
-pub extern "C" fn bik_step_back(
+pub fn bik_step_back(
     control: &mut [u32],
     stack: &mut [u32],
     heap: &mut [u32],
     trail: &mut [u32],
     work: &mut [u32],
 ) -> BikStepped
-    ensures { StepsBackForC (record { control = control.entry.now; stack = stack.old; heap = heap.old; trail = trail.old }) work.old result (record { control = control.exit.now; stack = stack.new; heap = heap.new; trail = trail.new }) work.new }
+    ensures { StepsBackForC (record { control = control.old; stack = stack.old; heap = heap.old; trail = trail.old }) work.old result (record { control = control.new; stack = stack.new; heap = heap.new; trail = trail.new }) work.new }
 {
     stepped(retreat::step_back(control, stack, heap, trail, work))
 }

@@ -55,8 +55,7 @@ fn told(answer: Why) -> BikHeld
 }
 
 // Tells why a heap cell is held: `holder::why_held` for C.
-#[unsafe(no_mangle)]
-pub extern "C" fn bik_why_held(
+pub fn bik_why_held(
     control: &[u32],
     stack: &[u32],
     heap: &[u32],
@@ -65,7 +64,7 @@ pub extern "C" fn bik_why_held(
     cell: u32,
     room: &mut [u32],
 ) -> BikHeld
-    ensures { ExplainsForC (record { control = control.entry.now; stack = stack.now; heap = heap.now; trail = trail.now }) work.old cell room.old result work.new room.new }
+    ensures { ExplainsForC (record { control = control.now; stack = stack.now; heap = heap.now; trail = trail.now }) work.old cell room.old result work.new room.new }
 {
     told(holder::why_held(control, stack, heap, trail, work, cell, room))
 }
