@@ -1,5 +1,6 @@
 // The table of refusals 1 to 7 and 17, in the order of checks. What passes leaves its notes in the work words.
 #![tactic(auto)]
+
 ghost use Rattle.std.specs.Prelude.{◌≡◌, ◌≤◌, length};
 ghost use Rattle.machine.specs.Layout.{Image, fixed};
 ghost use Rattle.machine.specs.Refusals.{fits};
@@ -49,7 +50,7 @@ fn registers_fit(control: &[u32], heap: usize, trail: usize) -> bool
 // Refusals 5 to 7, of an image whose stack words are noted.
 fn check_words(control: &[u32], stack: &[u32], heap: &[u32], trail: &[u32], work: &[u32]) -> Checked
     requires { WordsNoted (record { control = control.now; stack = stack.now; heap = heap.now; trail = trail.now }) work.now }
-    ensures { ChecksWords (record { control = control.entry.now; stack = stack.now; heap = heap.now; trail = trail.now }) result }
+    ensures { ChecksWords (record { control = control.now; stack = stack.now; heap = heap.now; trail = trail.now }) result }
 {
     let checked = cells::check_cells(control, stack, heap, work, heap.len());
     match checked {
@@ -67,7 +68,7 @@ fn check_noted(
     work: &mut [u32],
 ) -> Checked
     requires { WordsNoted (record { control = control.now; stack = stack.now; heap = heap.now; trail = trail.now }) work.old }
-    ensures { ChecksNoted (record { control = control.entry.now; stack = stack.now; heap = heap.now; trail = trail.now }) work.old result work.new }
+    ensures { ChecksNoted (record { control = control.now; stack = stack.now; heap = heap.now; trail = trail.now }) work.old result work.new }
 {
     let checked = check_words(control, stack, heap, trail, work);
     match checked {
@@ -85,7 +86,7 @@ fn check_image(
     work: &mut [u32],
 ) -> Checked
     requires { Blanked (record { control = control.now; stack = stack.now; heap = heap.now; trail = trail.now }) work.old }
-    ensures { ChecksImage (record { control = control.entry.now; stack = stack.now; heap = heap.now; trail = trail.now }) work.old result work.new }
+    ensures { ChecksImage (record { control = control.now; stack = stack.now; heap = heap.now; trail = trail.now }) work.old result work.new }
 {
     if !registers_fit(control, heap.len(), trail.len()) {
         return Checked::Refused(Refusal::Registers);
@@ -113,7 +114,7 @@ pub fn admit(
     trail: &[u32],
     work: &mut [u32],
 ) -> Checked
-    ensures { Admits (record { control = control.entry.now; stack = stack.now; heap = heap.now; trail = trail.now }) work.old result work.new }
+    ensures { Admits (record { control = control.now; stack = stack.now; heap = heap.now; trail = trail.now }) work.old result work.new }
 {
     if !sizes_enough(
         control.len(),

@@ -14,7 +14,7 @@ use Rattle.machine.proofs.Chains.{Point, Is, in_point, point-bounds}
 use Rattle.machine.proofs.Layouts.{at-word}
 use Rattle.machine.proofs.Roles.{has-is, code-inj}
 use Rattle.machine.proofs.Each.{length-each, each_at}
-use Rattle.machine.proofs.Accepted.{Accepted, Good, inside, Names}
+use Rattle.machine.proofs.Accepted.{Accepted, Good, Names}
 use Rattle.machine.proofs.Inside.{value_low, heap-entry, stack-entry}
 use Rattle.counts.specs.Counts.{Counting, Low, Movable}
 use Rattle.counts.proofs.Counting.{counting-low}

@@ -64,6 +64,11 @@ pub check-from : (file : List ℕ) (kind n : ℕ) {at at' : ℕ} {r : Checked} �
     → Checks (records_verdict file kind at' n) (past at' kind n) r
 check-from file kind n {at} {at'} {r} e is = subst (λ (x : ℕ). Checks (records_verdict file kind x n) (past x kind n) r) e is
 
+-- such a check that came to its end: the records have passed, and where it ended
+pub good-from : (file : List ℕ) (kind n : ℕ) {at at' : ℕ} {r : Checked} {next : ℕ} → at ≡ at' → Checks (records_verdict file kind at n) (past at kind n) r → r ≡ checking.Good next
+    → (records_verdict file kind at' n ≡ accepted) × (next ≡ past at' kind n)
+good-from file kind n {next = next} e is g = let w = check-from file kind n e is in (good-passes w next g, w.next next g)
+
 -- checks one after the other: the first is refused; it passes, and the others speak; there is no other
 module _ {end : ℕ} {v : FileVerdict} (vs : List FileVerdict) where
   pub stage-refused : (q : FileRefusal) → v ≡ verdict_of q → Checks (first_of (v ∷ vs)) end (checking.Refused q)

@@ -18,7 +18,7 @@ use Rattle.freeze.specs.declared.FileRefusal.TheVariants.{Sizes, Registers, Outp
 use Rattle.freeze.specs.declared.Frozen.{Frozen}
 use Rattle.freeze.specs.declared.Frozen.TheVariants as freezing
 use Rattle.freeze.specs.Kinds.{COUNTS, CONTROL, STACK, HEAP, TRAIL, word_body, body_of, record_size, past}
-use Rattle.freeze.specs.Verdicts.{FileVerdict, accepted, verdict_of, gate, first_of, if_accepted}
+use Rattle.freeze.specs.Verdicts.{FileVerdict, accepted, verdict_of, gate, if_accepted}
 use Rattle.freeze.specs.Thaw.{counts_of, lengths_of, within, past_end, front}
 use Rattle.freeze.specs.Freeze.{records, counts_record, file_of, frozen, freeze_verdict, FreezeAnswer, freeze_answer_of, freeze_answer, Freezes}
 use Rattle.freeze.specs.Parts.{Small, Writes}

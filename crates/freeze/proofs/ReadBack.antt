@@ -7,11 +7,10 @@ use mathlib.Core.List.{List, [], ◌∷◌, ◌++◌}
 use native.Mathlib.Omega.{arith}
 use native.Mathlib.Nat.{le_of_eq}
 use lib.ListN.{length, get_or, take, drop}
-use lib.Dec.{eqb, leb}
+use lib.Dec.{eqb}
 use lib.Seq.{get_or-take, length-take-le, take-append_seam}
 use borrow.Author.Tests.{le-leb, eq-eqb}
 use Rattle.machine.specs.Layout.{Image, Field, T, H, N, place_of, fixed, field, reg}
-use Rattle.machine.specs.Refusals.{fits}
 use Rattle.freeze.specs.declared.AreaCounts.{AreaCounts}
 use Rattle.freeze.specs.Kinds.{COUNTS, CONTROL, STACK, HEAP, TRAIL, END, word_body, body_of, record_size, past}
 use Rattle.freeze.specs.declared.Thawed.TheVariants as thawing

@@ -14,7 +14,7 @@ use Rattle.freeze.specs.declared.FileRefusal.TheVariants.{Cut, Kind}
 use native.Mathlib.Numerals.{add-one}
 use Rattle.freeze.specs.declared.Record.TheVariants as read
 use Rattle.freeze.specs.Kinds.{pick, UNUSED, body_of, used, record_size, past}
-use Rattle.freeze.specs.Verdicts.{FileVerdict, accepted, refused, verdict_of, or_else, if_accepted}
+use Rattle.freeze.specs.Verdicts.{FileVerdict, accepted, verdict_of, or_else, if_accepted}
 use Rattle.freeze.specs.Records.{kind_at, record_verdict, record_answer_of, record_at, offset_after, records_verdict}
 use Rattle.freeze.proofs.VerdictLaws.{or_else-refusal, if_accepted-refusal, refusal-refuses}
 

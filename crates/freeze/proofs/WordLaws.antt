@@ -1,6 +1,6 @@
 -- Laws of the words that records in a row hold: how many, which stands where, that their bytes are in the file, and the fields of the
 -- control words. Assumes nothing.
-use Prim.Native.Nat.{ℕ, zero, suc, ◌+◌, ◌*◌, ◌-◌, ◌≤◌, ◌<◌}
+use Prim.Native.Nat.{ℕ, zero, suc, ◌+◌, ◌*◌, ◌≤◌, ◌<◌}
 use mathlib.Core.Path.{◌≡◌, refl, ap, ◌∙◌}
 use mathlib.Core.List.{List}
 use native.Mathlib.Omega.{arith}
@@ -9,7 +9,7 @@ use lib.ListN.{length, get_or}
 use Rattle.machine.specs.Layout.{Field, place_of, field, reg}
 use Rattle.freeze.specs.declared.AreaCounts.{AreaCounts}
 use Rattle.freeze.specs.Kinds.{CONTROL, record_size}
-use Rattle.freeze.specs.Verdicts.{accepted, or_else}
+use Rattle.freeze.specs.Verdicts.{accepted}
 use Rattle.freeze.specs.Records.{records_verdict, word_in, words}
 use Rattle.freeze.specs.Thaw.{control_at, image_in}
 use Rattle.freeze.proofs.VerdictLaws.{both-passed, or_else-accepted}

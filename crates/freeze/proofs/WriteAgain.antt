@@ -1,21 +1,20 @@
 -- An accepted file is written again: it is the file of the words that it holds, and the areas that the reader leaves say its counts.
 -- Assumes nothing.
 use Prim.Native.Nat.{ℕ, ◌+◌, ◌≤◌, ◌<◌}
-use mathlib.Core.Path.{◌≡◌, refl, sym, ap, ◌∙◌}
+use mathlib.Core.Path.{◌≡◌, sym, ap, ◌∙◌}
 use mathlib.Core.Bool.{true}
 use mathlib.Core.List.{List, [], ◌∷◌, ◌++◌}
 use native.Mathlib.Omega.{arith}
 use native.Mathlib.Nat.{le_refl}
 use native.Mathlib.Numerals.{add-one}
 use lib.ListN.{length, get_or, take, drop, drop_of_length-le, get_or-append}
-use lib.Dec.{eqb, leb}
 use lib.Seq.{drop-cons, take_at, take-take, length-take-le, length_front}
 use borrow.Author.Tests.{le-leb, leb-true, eqb-true}
 use Rattle.machine.specs.Layout.{Image, Field, T, H, N, place_of, fixed, field, reg}
 use Rattle.machine.specs.Refusals.{legal_sizes, fits}
 use Rattle.freeze.specs.declared.AreaCounts.{AreaCounts}
 use Rattle.freeze.specs.declared.Frozen.TheVariants as freezing
-use Rattle.freeze.specs.Kinds.{COUNTS, CONTROL, STACK, HEAP, TRAIL, END, word_body, body_of, record_size, past}
+use Rattle.freeze.specs.Kinds.{COUNTS, CONTROL, STACK, HEAP, TRAIL, END, word_body, body_of, record_size}
 use Rattle.freeze.specs.Verdicts.{accepted}
 use Rattle.freeze.specs.Records.{records_verdict, number_at, words}
 use Rattle.freeze.specs.Thaw.{counts_of, lengths_of, within, counts_in, control_at, stack_at, heap_at, trail_at, end_at, past_end, image_in, agree, front, filled}

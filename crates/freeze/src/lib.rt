@@ -44,7 +44,7 @@ pub struct Reader<'a> {
 }
 
 // So many words of each area.
-#[derive(Drop)]
+#[derive(Clone, Copy)]
 pub struct AreaCounts {
     pub control: usize,
     pub stack: usize,

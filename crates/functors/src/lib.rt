@@ -23,7 +23,7 @@ pub fn check_first(
     notes: usize,
 ) -> Checked
     requires { Checkable (record { control = control.now; stack = stack.now; heap = heap.now; trail = trail.now }) work.old notes }
-    ensures { ChecksFirst (record { control = control.entry.now; stack = stack.now; heap = heap.now; trail = trail.now }) work.old result work.new }
+    ensures { ChecksFirst (record { control = control.now; stack = stack.now; heap = heap.now; trail = trail.now }) work.old result work.new }
 {
     let h = control[H] as usize;
     let n = control[N] as usize;

@@ -8,7 +8,7 @@ ghost use Rattle.functors.specs.Functors.{covers_heap, covers_stack, covers_cont
 
 use super::words::{covers_first, names_first, names_flag};
 use cells::Checked;
-use machine::{Area, CELL, FIXED, Place, Refusal, T};
+use machine::{Area, CELL, FIXED, Place, Refusal};
 
 // The lowest such heap index below h, or h.
 fn first_heap(heap: &[u32], h: usize, work: &[u32], total: u32) -> usize
@@ -166,7 +166,7 @@ pub(super) fn find(
     if a < n {
         return refuse(Area::Control, FIXED + a);
     }
-    let t = control[T] as usize;
+    let t = control[machine::T] as usize;
     let e = first_entry(trail, t, work);
     if e < t {
         return refuse(Area::Trail, e);

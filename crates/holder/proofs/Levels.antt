@@ -22,6 +22,7 @@ module _ (begins : ℕ → ℕ) where
   -- something has begun exactly below places after 0
   pub levels-begun : begins 0 ≡ 1 → (b : ℕ) → 0 < b → 0 < levels begins b
   unfolding levels
+  levels-begun e zero l = absurd (omega arith)
   levels-begun e (suc zero) l = omega arith
   levels-begun e (suc (suc b)) l = omega (arith, levels-begun e (suc b) (omega arith))
 

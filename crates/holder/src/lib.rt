@@ -1,5 +1,6 @@
 // Why a heap cell is held: the shortest chain from a root down to it, and among equals the one with the lowest places.
 #![tactic(auto)]
+
 mod chain; // chain.rt: the chain, traced back through the queue
 mod root; // root.rt: the root that it starts from
 
@@ -57,7 +58,7 @@ fn explain(
     room: &mut [u32],
 ) -> Why
     requires { Markable control.now stack.now heap.now work.old }
-    ensures { (trail : List ℕ) → Reachable (record { control = control.entry.now; stack = stack.now; heap = heap.now; trail = trail }) work.old → Explained (record { control = control.entry.now; stack = stack.now; heap = heap.now; trail = trail }) x room.old work.old work.new result room.new }
+    ensures { (trail : List ℕ) → Reachable (record { control = control.now; stack = stack.now; heap = heap.now; trail = trail }) work.old → Explained (record { control = control.now; stack = stack.now; heap = heap.now; trail = trail }) x room.old work.old work.new result room.new }
 {
     if control[H] as usize <= x {
         return Why::NoCell;
@@ -79,7 +80,7 @@ pub fn why_held(
     cell: u32,
     room: &mut [u32],
 ) -> Why
-    ensures { Explains (record { control = control.entry.now; stack = stack.now; heap = heap.now; trail = trail.now }) work.old cell room.old result work.new room.new }
+    ensures { Explains (record { control = control.now; stack = stack.now; heap = heap.now; trail = trail.now }) work.old cell room.old result work.new room.new }
 {
     let checked = admit::admit(control, stack, heap, trail, work);
     if let Checked::Refused(refusal) = checked {

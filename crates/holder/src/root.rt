@@ -4,14 +4,14 @@ ghost use Rattle.machine.specs.Layout.{N, field};
 ghost use Rattle.machine.specs.Refusals.{first};
 ghost use Rattle.holder.specs.Tracing.{argument_refers, cell_refers, Arguments, Cells, FirstRoot};
 
-use machine::{Area, CELL, FIXED, N, Place};
+use machine::{Area, CELL, FIXED, Place};
 
 // The number of the lowest saved argument that refers to x, or how many there are.
 fn first_argument(control: &[u32], heap: &[u32], x: usize) -> usize
     requires { Arguments control.now heap.now }
     ensures { result ≡ first (argument_refers control.now heap.now x) 0 (field control.now 0 N) }
 {
-    let n = control[N] as usize;
+    let n = control[machine::N] as usize;
     let mut k = 0;
     while k < n {
         if queue::refers(heap, control[FIXED + k], x) {
@@ -54,7 +54,7 @@ pub(super) fn root_of(control: &[u32], stack: &[u32], heap: &[u32], work: &[u32]
     ensures { FirstRoot control.now stack.now heap.now work.now x result }
 {
     let k = first_argument(control, heap, x);
-    if k < control[N] as usize {
+    if k < control[machine::N] as usize {
         return Place {
             area: Area::Control,
             index: FIXED + k,

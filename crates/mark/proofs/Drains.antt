@@ -81,7 +81,7 @@ module _ (heap : List ℕ) (Open : ℕ → Type 0) (n : ℕ) where
           (set_cases m x 1 y k);
     }
 
-  turning-grown : {P : ℕ → Type 0} {marks m : List ℕ} {top t : ℕ} → Grown heap P marks top m t → Turning heap Open n marks top → Turning heap Open n m t
+  turning-grown : {P : ℕ → Type 0} {marks : List ℕ} {top : ℕ} {m : List ℕ} {t : ℕ} → Grown heap P marks top m t → Turning heap Open n marks top → Turning heap Open n m t
   turning-grown none r = r
   turning-grown (more {m = m} {t = t} g x p h e) r = turning-push m t x h e (turning-grown g r)
   turning-grown (leaf {m = m} {t = t} g x p h e no_cell_lem) r = turning-leaf m t x h e (turning-grown g r) no_cell_lem

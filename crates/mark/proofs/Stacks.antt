@@ -67,35 +67,35 @@ chain-push pending m top x h e c =
 -- ---- runs of pushes
 
 module _ {heap : List ℕ} where
-  pub grown-keeps : {P : ℕ → Type 0} {marks m : List ℕ} {top t : ℕ} → Grown heap P marks top m t → (y : ℕ) → Marked marks y → Marked m y
+  pub grown-keeps : {P : ℕ → Type 0} {marks : List ℕ} {top : ℕ} {m : List ℕ} {t : ℕ} → Grown heap P marks top m t → (y : ℕ) → Marked marks y → Marked m y
   grown-keeps none y k = k
   grown-keeps (more {m = m} {t = t} g x p h e) y k = set_keeps m x (t + 1) y (omega arith) (grown-keeps g y k)
   grown-keeps (leaf {m = m} g x p h e n) y k = set_keeps m x 1 y (omega arith) (grown-keeps g y k)
 
-  pub grown-same : {P : ℕ → Type 0} {marks m : List ℕ} {top t : ℕ} → Grown heap P marks top m t → length m ≡ length marks
+  pub grown-same : {P : ℕ → Type 0} {marks : List ℕ} {top : ℕ} {m : List ℕ} {t : ℕ} → Grown heap P marks top m t → length m ≡ length marks
   grown-same none = refl
   grown-same (more {m = m} {t = t} g x p h e) = length-set m x (t + 1) ∙ grown-same g
   grown-same (leaf {m = m} g x p h e n) = length-set m x 1 ∙ grown-same g
 
   -- only cells of P are new
-  pub grown-sound : {P : ℕ → Type 0} {marks m : List ℕ} {top t : ℕ} → Grown heap P marks top m t → (y : ℕ) → Marked m y → P y ⊎ Marked marks y
+  pub grown-sound : {P : ℕ → Type 0} {marks : List ℕ} {top : ℕ} {m : List ℕ} {t : ℕ} → Grown heap P marks top m t → (y : ℕ) → Marked m y → P y ⊎ Marked marks y
   grown-sound none y k = inr k
   grown-sound {P} (more {m = m} {t = t} g x p h e) y k =
       ⊎_elim (λ q. inl (subst P (sym q) p)) (λ o. grown-sound g y o) (set_cases m x (t + 1) y k)
   grown-sound {P} (leaf {m = m} g x p h e n) y k =
       ⊎_elim (λ q. inl (subst P (sym q) p)) (λ o. grown-sound g y o) (set_cases m x 1 y k)
 
-  pub grown-map : {P Q : ℕ → Type 0} {marks m : List ℕ} {top t : ℕ} → ((x : ℕ) → P x → Q x) → Grown heap P marks top m t → Grown heap Q marks top m t
+  pub grown-map : {P Q : ℕ → Type 0} {marks : List ℕ} {top : ℕ} {m : List ℕ} {t : ℕ} → ((x : ℕ) → P x → Q x) → Grown heap P marks top m t → Grown heap Q marks top m t
   grown-map f none = none
   grown-map f (more g x p h e) = more (grown-map f g) x (f x p) h e
   grown-map f (leaf g x p h e n) = leaf (grown-map f g) x (f x p) h e n
 
-  pub grown-join : {P Q R : ℕ → Type 0} {marks m m' : List ℕ} {top t t' : ℕ} → ((x : ℕ) → P x → R x) → ((x : ℕ) → Q x → R x) → Grown heap P marks top m t → Grown heap Q m t m' t' → Grown heap R marks top m' t'
+  pub grown-join : {P Q R : ℕ → Type 0} {marks : List ℕ} {top : ℕ} {m : List ℕ} {t : ℕ} {m' : List ℕ} {t' : ℕ} → ((x : ℕ) → P x → R x) → ((x : ℕ) → Q x → R x) → Grown heap P marks top m t → Grown heap Q m t m' t' → Grown heap R marks top m' t'
   grown-join f g a none = grown-map f a
   grown-join f g a (more b x p h e) = more (grown-join f g a b) x (g x p) h e
   grown-join f g a (leaf b x p h e n) = leaf (grown-join f g a b) x (g x p) h e n
 
-  pub pushed-join : {P Q R : ℕ → Type 0} {marks m m' : List ℕ} {top t t' : ℕ} → ((x : ℕ) → P x → R x) → ((x : ℕ) → Q x → R x) → ((x : ℕ) → R x → P x ⊎ Q x) → Pushed heap P marks top m t → Pushed heap Q m t m' t' → Pushed heap R marks top m' t'
+  pub pushed-join : {P Q R : ℕ → Type 0} {marks : List ℕ} {top : ℕ} {m : List ℕ} {t : ℕ} {m' : List ℕ} {t' : ℕ} → ((x : ℕ) → P x → R x) → ((x : ℕ) → Q x → R x) → ((x : ℕ) → R x → P x ⊎ Q x) → Pushed heap P marks top m t → Pushed heap Q m t m' t' → Pushed heap R marks top m' t'
   pushed-join f g s a b = record {
     grown = grown-join f g a.grown b.grown;
     all = λ x r. ⊎_elim (λ p. grown-keeps b.grown x (a.all x p)) (λ q. b.all x q) (s x r);
@@ -103,14 +103,14 @@ module _ {heap : List ℕ} where
     small = λ h. omega (arith, a.same, b.small (omega (arith, a.same, a.small h)));
   }
 
-  pub pushed-iff : {P Q : ℕ → Type 0} {marks m : List ℕ} {top t : ℕ} → ((x : ℕ) → P x → Q x) → ((x : ℕ) → Q x → P x) → Pushed heap P marks top m t → Pushed heap Q marks top m t
+  pub pushed-iff : {P Q : ℕ → Type 0} {marks : List ℕ} {top : ℕ} {m : List ℕ} {t : ℕ} → ((x : ℕ) → P x → Q x) → ((x : ℕ) → Q x → P x) → Pushed heap P marks top m t → Pushed heap Q marks top m t
   pushed-iff f g p = record { grown = grown-map f p.grown; all = λ x q. p.all x (g x q); same = p.same; small = p.small }
 
   -- what is left to push can be pushed
   pub pushable-part : {P Q : ℕ → Type 0} {marks : List ℕ} {top : ℕ} → Pushable heap P marks top → ((x : ℕ) → Q x → P x) → Pushable heap Q marks top
   pushable-part p f = record { inside = λ x q. p.inside x (f x q); deep = p.deep; small = p.small; low = p.low }
 
-  pub pushable-after : {P Q : ℕ → Type 0} {marks m : List ℕ} {top t : ℕ} → Pushable heap P marks top → Pushed heap Q marks top m t → Pushable heap P m t
+  pub pushable-after : {P Q : ℕ → Type 0} {marks : List ℕ} {top : ℕ} {m : List ℕ} {t : ℕ} → Pushable heap P marks top → Pushed heap Q marks top m t → Pushable heap P m t
   pushable-after p q = record {
     inside = λ x r. omega (arith, q.same, p.inside x r);
     deep = omega (arith, q.same, p.deep);
@@ -149,16 +149,16 @@ module _ {heap : List ℕ} where
   pub range_none : (marks : List ℕ) (top a : ℕ) → Pushed heap (Range a a) marks top marks top
   range_none marks top a = pushed_none marks top (λ y q. omega arith)
 
-  pub range-more : {marks m m' : List ℕ} {top t t' : ℕ} (a x : ℕ) → a ≤ x → Pushed heap (Range a x) marks top m t → Pushed heap (λ (y : ℕ). y ≡ x) m t m' t' → Pushed heap (Range a (x + 1)) marks top m' t'
+  pub range-more : {marks : List ℕ} {top : ℕ} {m : List ℕ} {t : ℕ} {m' : List ℕ} {t' : ℕ} (a x : ℕ) → a ≤ x → Pushed heap (Range a x) marks top m t → Pushed heap (λ (y : ℕ). y ≡ x) m t m' t' → Pushed heap (Range a (x + 1)) marks top m' t'
   range-more a x h = pushed-join (λ y r. omega arith) (λ y q. omega arith) split
     where
       split : (y : ℕ) → Range a (x + 1) y → Range a x y ⊎ (y ≡ x)
       split y r = elim (ℕ_discrete y x) [ yes q ↦ inr q | no n ↦ inl (omega arith) ]
 
-  pub range-end : {marks m : List ℕ} {top t : ℕ} (a x z : ℕ) → a ≤ x → x ≤ max a z → z ≤ x → Pushed heap (Range a x) marks top m t → Pushed heap (Range a z) marks top m t
+  pub range-end : {marks : List ℕ} {top : ℕ} {m : List ℕ} {t : ℕ} (a x z : ℕ) → a ≤ x → x ≤ max a z → z ≤ x → Pushed heap (Range a x) marks top m t → Pushed heap (Range a z) marks top m t
   range-end a x z h k l p = pushed-iff (λ y r. omega arith) (λ y r. omega arith) p
 
-  pub range-pair : {marks m m' : List ℕ} {top t t' : ℕ} (a z : ℕ) → z ≡ a + 1 → Pushed heap (λ (y : ℕ). y ≡ a) marks top m t → Pushed heap (λ (y : ℕ). y ≡ z) m t m' t' → Pushed heap (Range a (a + 2)) marks top m' t'
+  pub range-pair : {marks : List ℕ} {top : ℕ} {m : List ℕ} {t : ℕ} {m' : List ℕ} {t' : ℕ} (a z : ℕ) → z ≡ a + 1 → Pushed heap (λ (y : ℕ). y ≡ a) marks top m t → Pushed heap (λ (y : ℕ). y ≡ z) m t m' t' → Pushed heap (Range a (a + 2)) marks top m' t'
   range-pair a z e = pushed-join (λ y q. omega arith) (λ y q. omega arith) split
     where
       split : (y : ℕ) → Range a (a + 2) y → (y ≡ a) ⊎ (y ≡ z)

@@ -9,7 +9,7 @@ ghost use Rattle.mark.specs.Whole.{Whole, Passable, CellsBelow};
 ghost use Rattle.mark.specs.Pending.{Range, Pushed, Pushable, Inside, Ready, Drained};
 ghost use Rattle.mark.specs.Roots.{Arguments, ByArgument, StackCells, ByCell, PushedBelow};
 
-use machine::{CELL, FIXED, H, N};
+use machine::{CELL, FIXED, H};
 
 // Marks the cell x and puts it on the pending stack, unless it is marked. A CONST refers to nothing: it is marked and not looked into.
 fn push(heap: &[u32], marks: &mut [u32], top: u32, x: usize) -> u32
@@ -100,7 +100,7 @@ fn push_arguments(control: &[u32], heap: &[u32], marks: &mut [u32]) -> u32
     requires passable { Passable heap.now (Arguments control.now) marks.old }
     ensures { Pushed heap.now (ByArgument control.now heap.now) marks.old 0 marks.new result }
 {
-    let end = FIXED + control[N] as usize;
+    let end = FIXED + control[machine::N] as usize;
     let mut t = 0;
     let mut i = FIXED;
     while i < end {

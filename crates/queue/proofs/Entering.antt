@@ -11,19 +11,19 @@ use Rattle.queue.proofs.Puts.{place, put-length, put-level, fit-put}
 
 -- ---- cells joined one after the other
 
-pub joined_length : {q q' : List ℕ} {t t' x : ℕ} → Joined q t x q' t' → length q' ≡ length q
+pub joined_length : {q : List ℕ} {t x : ℕ} {q' : List ℕ} {t' : ℕ} → Joined q t x q' t' → length q' ≡ length q
 joined_length (old e) = refl
 joined_length {q} {t = t} {x = x} (new e) = put-length q t x
 
-pub joined-fit : {q q' : List ℕ} {t t' x : ℕ} → Fit q t → x < length q → Joined q t x q' t' → Fit q' t'
+pub joined-fit : {q : List ℕ} {t x : ℕ} {q' : List ℕ} {t' : ℕ} → Fit q t → x < length q → Joined q t x q' t' → Fit q' t'
 joined-fit f h (old e) = f
 joined-fit {q} {t = t} {x = x} f h (new e) = fit-put q t x f h e
 
-joined-level : {q q' : List ℕ} {t t' x : ℕ} → Fit q t → x < length q → Joined q t x q' t' → (j : ℕ) → level_bit (get_or q' j 0) ≡ level_bit (get_or q j 0)
+joined-level : {q : List ℕ} {t x : ℕ} {q' : List ℕ} {t' : ℕ} → Fit q t → x < length q → Joined q t x q' t' → (j : ℕ) → level_bit (get_or q' j 0) ≡ level_bit (get_or q j 0)
 joined-level f h (old e) j = refl
 joined-level {q} {t = t} {x = x} f h (new e) j = put-level q t x h (place q t x f h e) e j
 
-joined-tail : {q q' : List ℕ} {t t' x : ℕ} → Joined q t x q' t' → t ≤ t'
+joined-tail : {q : List ℕ} {t x : ℕ} {q' : List ℕ} {t' : ℕ} → Joined q t x q' t' → t ≤ t'
 joined-tail (old e) = omega arith
 joined-tail (new e) = omega arith
 
@@ -54,7 +54,7 @@ module _ {a t : ℕ} {q : List ℕ} where
 
 -- ---- sources read one after the other
 
-pub all-length : {heap q q' : List ℕ} {word : ℕ → ℕ} {m t t' : ℕ} → ReadAll heap word q t m q' t' → length q' ≡ length q
+pub all-length : {heap q : List ℕ} {word : ℕ → ℕ} {t m : ℕ} {q' : List ℕ} {t' : ℕ} → ReadAll heap word q t m q' t' → length q' ≡ length q
 all-length none = refl
 all-length (more g i) = entered-length i ∙ all-length g
 

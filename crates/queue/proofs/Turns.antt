@@ -69,7 +69,7 @@ module _ (heap : List ℕ) (word : ℕ → ℕ) (roots s : ℕ) (cells from : Li
     pub fresh : (j : ℕ) → length from ≤ j → j < length from' → get_or from' j 0 ≡ s
 
   module _ (h : s < roots + length cells) (p : length from ≡ length cells) where
-    turn-joined : {q q' : List ℕ} {t t' x : ℕ} → Fit q t → x < length q → Refers heap (source heap word roots cells s) x → Turn s x q t → Joined q t x q' t' → Turn s (x + 1) q' t'
+    turn-joined : {q : List ℕ} {t x : ℕ} {q' : List ℕ} {t' : ℕ} → Fit q t → x < length q → Refers heap (source heap word roots cells s) x → Turn s x q t → Joined q t x q' t' → Turn s (x + 1) q' t'
     turn-joined {x = x} f l ref b (old e) = record {
       cells' = b.cells';
       from' = b.from';
@@ -99,7 +99,7 @@ module _ (heap : List ℕ) (word : ℕ → ℕ) (roots s : ℕ) (cells from : Li
               ];
         }
 
-    turn-entered : {a z t t' : ℕ} {q q' : List ℕ} → Fit q t → ((y : ℕ) → Range a z y → y < length q) → ((y : ℕ) → Range a z y → Refers heap (source heap word roots cells s) y) → Turn s a q t → Entered a q t z q' t' → Turn s z q' t'
+    turn-entered : {a t : ℕ} {q : List ℕ} {z : ℕ} {q' : List ℕ} {t' : ℕ} → Fit q t → ((y : ℕ) → Range a z y → y < length q) → ((y : ℕ) → Range a z y → Refers heap (source heap word roots cells s) y) → Turn s a q t → Entered a q t z q' t' → Turn s z q' t'
     turn-entered f l ref b none = b
     turn-entered {a} f l ref b (more {x = x} g i) =
         let past = entered-past g in
@@ -153,9 +153,9 @@ module _ {heap : List ℕ} {word : ℕ → ℕ} {roots : ℕ} where
   }
 
   -- the sources from k on are the words that have been read
-  pub searched-all : {t t' m n : ℕ} {q q' : List ℕ} {words : ℕ → ℕ} (k : ℕ) → k + n ≤ roots → ((i : ℕ) → i < n → word (k + i) ≡ words i) → Readable heap words n q t → Searched heap word roots k q t → m ≤ n → ReadAll heap words q t m q' t' → Searched heap word roots (k + m) q' t'
+  pub searched-all : {t n : ℕ} {q : List ℕ} {words : ℕ → ℕ} {m : ℕ} {q' : List ℕ} {t' : ℕ} (k : ℕ) → k + n ≤ roots → ((i : ℕ) → i < n → word (k + i) ≡ words i) → Readable heap words n q t → Searched heap word roots k q t → m ≤ n → ReadAll heap words q t m q' t' → Searched heap word roots (k + m) q' t'
   searched-all {t} {q = q} k h e d b l none = subst (λ (i : ℕ). Searched heap word roots i q t) (omega arith) b
-  searched-all {t' = t'} {q' = q'} {words = words} k h e d b l (more {n = m} g i) =
+  searched-all {words = words} {q' = q'} {t' = t'} k h e d b l (more {n = m} g i) =
       let b' = searched-all k h e d b (omega arith) g in
       let d' = readable-after d (omega arith) g in
       let s = root-source heap word roots b'.cells (k + m) (omega arith) ∙ e m (omega arith) in

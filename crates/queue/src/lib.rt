@@ -1,5 +1,6 @@
 // The breadth-first search from the roots, in the work words below H: the queue of the cells met, where its levels begin, and which cells are met.
 #![tactic(auto)]
+
 ghost use Rattle.std.specs.Prelude.{◌≡◌, ◌&&◌, ℕ, ◌+◌, ◌<◌, ◌≤◌, length, get_or, take, eqb, leb, ltb};
 ghost use Rattle.cell.specs.Word.{STRUCT, value_of, tag_of, extent};
 ghost use Rattle.machine.specs.Layout.{N, fixed, field, argument};
@@ -9,7 +10,7 @@ ghost use Rattle.queue.specs.Filled.{met_bit, level_bit, entry_of, begins_at, Fi
 ghost use Rattle.queue.specs.Entering.{Fit, Joined, Entered, Read, ReadAll, ReadBelow, Readable, stack_word};
 ghost use Rattle.queue.specs.Reading.{Searched, Followed};
 
-use machine::{CELL, FIXED, H, N};
+use machine::{CELL, FIXED, H};
 
 // Whether the work word of a cell says that it is met.
 pub fn is_met(word: u32) -> bool
@@ -106,7 +107,7 @@ fn enter_arguments(control: &[u32], heap: &[u32], queue: &mut [u32]) -> usize
     requires { (fixed + field control.now 0 N ≤ length control.now) × Readable heap.now (argument control.now 0) (field control.now 0 N) queue.old 0 }
     ensures { ReadAll heap.now (argument control.now 0) queue.old 0 (field control.now 0 N) queue.new result }
 {
-    let end = FIXED + control[N] as usize;
+    let end = FIXED + control[machine::N] as usize;
     let mut t = 0;
     let mut i = FIXED;
     while i < end {

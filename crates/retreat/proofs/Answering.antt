@@ -10,7 +10,7 @@ use Rattle.machine.specs.declared.Refusal.{Refusal}
 use Rattle.machine.specs.declared.Refusal.TheVariants.{NoChoicePoint, ControlShort}
 use Rattle.machine.specs.declared.Stepped.TheVariants as stepping
 use Rattle.machine.specs.Layout.{Image, B, N, fixed, none, reg, at}
-use Rattle.machine.specs.Refusals.{Verdict, accepted, refused, first_of, step_checks}
+use Rattle.machine.specs.Refusals.{Verdict, accepted, first_of, step_checks}
 use Rattle.machine.specs.Stepped.{undone, stepped}
 use Rattle.machine.specs.Answers.{StepAnswer, verdict_of, step_answer_of}
 use Rattle.machine.proofs.Accepted.{Granted}

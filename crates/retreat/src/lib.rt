@@ -1,5 +1,6 @@
 // The step back: the trail entries since the newest choice point are undone, and the choice point becomes the control area.
 #![tactic(auto)]
+
 ghost use Rattle.std.specs.Prelude.{◌≡◌, [], ◌∷◌, ◌+◌, ◌≤◌, length};
 ghost use Rattle.machine.specs.Answers.{StepsBack};
 ghost use Rattle.machine.specs.Moved.{each};
@@ -50,8 +51,8 @@ fn copy(control: &mut [u32], stack: &[u32], b: usize, count: usize)
 
 // The step back from an image that passes 1 to 7 and 17.
 fn retreat(control: &mut [u32], stack: &mut [u32], heap: &mut [u32], trail: &[u32]) -> Stepped
-    requires { Accepted (record { control = control.now; stack = stack.old; heap = heap.old; trail = trail.now }) }
-    ensures { Retreats (record { control = control.entry.now; stack = stack.old; heap = heap.old; trail = trail.now }) result (record { control = control.exit.now; stack = stack.new; heap = heap.new; trail = trail.now }) }
+    requires { Accepted (record { control = control.old; stack = stack.old; heap = heap.old; trail = trail.now }) }
+    ensures { Retreats (record { control = control.old; stack = stack.old; heap = heap.old; trail = trail.now }) result (record { control = control.new; stack = stack.new; heap = heap.new; trail = trail.now }) }
 {
     let newest = control[B];
     if newest == NONE {
@@ -77,7 +78,7 @@ pub fn step_back(
     trail: &[u32],
     work: &mut [u32],
 ) -> Stepped
-    ensures { StepsBack (record { control = control.entry.now; stack = stack.old; heap = heap.old; trail = trail.now }) work.old result (record { control = control.exit.now; stack = stack.new; heap = heap.new; trail = trail.now }) work.new }
+    ensures { StepsBack (record { control = control.old; stack = stack.old; heap = heap.old; trail = trail.now }) work.old result (record { control = control.new; stack = stack.new; heap = heap.new; trail = trail.now }) work.new }
 {
     let words = heap.len() + stack.len();
     let checked = admit::admit(control, stack, heap, trail, work);

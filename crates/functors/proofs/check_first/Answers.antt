@@ -18,12 +18,12 @@ tally-total-requires c = tallyable c.requires c.flag_all-structures.ensures
 
 pub find-checked-requires : goal.find-checked-requires
 unfolding field
-find-checked-requires c = searchable c.before.before.before.before.before.before.before.before.before.before.before.before.before.before.before.before.before.requires c.flag-all.ensures c.tally.ensures
+find-checked-requires c = searchable c.requires c.flag_all-structures.ensures c.tally-total.ensures
 
 pub clear-requires : goal.clear-requires
 unfolding field
-clear-requires c = (omega arith, clearable c.before.before.before.before.before.before.before.before.before.before.before.before.before.before.before.before.before.before.before.requires c.flag-all.ensures c.tally.ensures)
+clear-requires c = (omega arith, clearable c.requires c.flag_all-structures.ensures c.tally-total.ensures)
 
 pub returns : goal.returns
 unfolding field
-returns c = all_found c.before.before.before.before.before.before.before.before.before.before.before.before.before.before.before.before.before.before.before.before.before.before.requires c.flag-all.ensures c.tally.ensures c.find-checked.ensures c.clear.ensures
+returns c = all_found c.requires c.flag_all-structures.ensures c.tally-total.ensures c.find-checked.ensures c.clear.ensures

@@ -41,7 +41,7 @@ push_word-t-requires c =
     let d = v.0 in
     let o = on-top (goal.at.push_word-t-requires c).In-loop-t in (
       record {
-        inside = λ x r. omega (arith, d.same, p.0 _ (omega (arith, d.same)) x r);
+        inside = λ x r. omega (arith, d.same, p.inside _ (omega (arith, d.same)) x r);
         deep = omega (arith, d.same);
         small = omega (arith, d.same);
         low = o.2;

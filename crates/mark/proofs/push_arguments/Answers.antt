@@ -28,8 +28,8 @@ unfolding field
 push_word-t-requires c =
     let v = c.loop-i.invariant in
     let k = c.requires in (
-      pushable-part (pushable-after k.0.1 v.2) (λ x r. record { at = c.loop-i.i; below = omega arith; picked = v.0; refers = r }),
-      whole-at (passable-pushed k.1 (from_named (picked_more (omega arith))) v.2) _ (at c.loop-i.i (omega arith) v.0),
+      pushable-part (pushable-after k.control_in_bounds.1 v.2) (λ x r. record { at = c.loop-i.i; below = omega arith; picked = v.0; refers = r }),
+      whole-at (passable-pushed k.passable (from_named (picked_more (omega arith))) v.2) _ (at c.loop-i.i (omega arith) v.0),
     )
 
 pub overflow_add-i : goal.overflow_add-i

@@ -10,48 +10,41 @@ use Rattle.mark.proofs.Stacks.{pushable-part, pushable-after, pushed_none}
 use Rattle.mark.proofs.Whole.{passable-pushed, whole-at, from_named, picked_more}
 use Rattle.mark.proofs.Roots.{named_more, named-skip, below_put}
 use Rattle.mark.proofs.push_cells.Goals as goal
+use Rattle.mark.proofs.push_cells.Goals.{Then-work-notes-eq-CELL, then-work-notes-eq-CELL, else-work-notes-eq-CELL}
 
 -- in a turn: the note that is read is the one at entry, and the first h work words are h words
-module _ (c : tie.After-slice-known2 invariant-loop decreases-loop) where
-  abbrev at-loop : tie.At-loop invariant-loop decreases-loop
-  at-loop = c.before.before
+noted : (c : Then-work-notes-eq-CELL) → get_or c.args.work.now (length c.args.heap.now + c.loop-i.i) 0 ≡ get_or c.loop-i.work (length c.args.heap.now + c.loop-i.i) 0
+noted c = sym (rest_at c.args.h _ _ c.loop-i.invariant.1.rest (length c.args.heap.now + c.loop-i.i) (omega arith))
 
-  abbrev entry : tie.Start invariant-loop decreases-loop
-  entry = at-loop.before.before.before.before
-
-  abbrev place : ℕ
-  place = length entry.args.heap.now + at-loop.loop.i
-
-  noted : get_or entry.args.work.now place 0 ≡ get_or at-loop.loop.work place 0
-  noted = sym (rest_at entry.args.h _ _ at-loop.loop.inv.1.rest place (omega arith))
-
-  front_length : length (take entry.args.h at-loop.loop.work) ≡ entry.args.h
-  front_length = length-take-le _ _ (omega arith)
+front_length : (c : Then-work-notes-eq-CELL) → length (take c.args.h c.loop-i.work) ≡ c.args.h
+front_length c = length-take-le _ _ (omega arith)
 
 pub loop-i-init : goal.loop-i-init
 loop-i-init c =
     (omega arith, record { front = pushed_none _ _ (λ x r. omega (arith, r.below)); rest = refl; same = refl })
 
 pub slice_bounds-push_word-end-then-work-notes-eq-CELL : goal.slice_bounds-push_word-end-then-work-notes-eq-CELL
-slice_bounds-push_word-end-then-work-notes-eq-CELL c = sym (front_length (PLACE c After-slice_known-in-loop-i-1))
+slice_bounds-push_word-end-then-work-notes-eq-CELL c = sym (front_length (goal.at.slice_bounds-push_word-end-then-work-notes-eq-CELL c).Then-work-notes-eq-CELL)
 
 pub push_word-t-requires : goal.push_word-t-requires
 push_word-t-requires c =
-    let v = (at-loop (PLACE c After-slice_known-in-loop-i-1)).loop.invariant.1.front in
-    let k = (entry (PLACE c After-slice_known-in-loop-i-1)).requires.1 in
-    let picked = noted (PLACE c After-slice_known-in-loop-i-1) ∙ c.if-work-notes-eq-CELL.true in (
-      pushable-part (pushable-after k.0 v) (λ x r. record { at = (at-loop (PLACE c After-slice_known-in-loop-i-1)).loop.i; below = omega arith; picked = picked; refers = r }),
-      whole-at (passable-pushed k.1 (from_named (picked_more (omega arith))) v) _ (at (at-loop (PLACE c After-slice_known-in-loop-i-1)).loop.i (omega arith) picked),
+    let v = c.loop-i.invariant.1.front in
+    let k = c.requires in
+    let picked = noted (goal.at.push_word-t-requires c).Then-work-notes-eq-CELL ∙ c.if-work-notes-eq-CELL.true in (
+      pushable-part (pushable-after k.pushable v) (λ x r. record { at = c.loop-i.i; below = omega arith; picked = picked; refers = r }),
+      whole-at (passable-pushed k.passable (from_named (picked_more (omega arith))) v) _ (at c.loop-i.i (omega arith) picked),
     )
 
 pub loop-i-preserved : goal.loop-i-preserved
 loop-i-preserved c =
-    let v = (at-loop (PLACE c After-slice_known-in-loop-i-1)).loop.invariant.1 in (
+    let v = c.loop-i.invariant.1 in
+    let noted : get_or c.args.work.now (length c.args.heap.now + c.loop-i.i) 0 ≡ get_or c.loop-i.work (length c.args.heap.now + c.loop-i.i) 0 =
+    sym (rest_at c.args.h _ _ v.rest (length c.args.heap.now + c.loop-i.i) (omega arith)) in (
       omega arith,
-      ⊎_elim
-          (λ w. rw (w.6, w.7) (below_put _ (omega arith) v w.3.kept.1.0 (named_more v.front (noted (PLACE c After-slice_known-in-loop-i-1) ∙ w.0.taken) w.3.ensures)))
-          (λ w. rw (w.1, w.2) (record { front = named-skip v.front (λ e. w.0.left (sym (noted (PLACE c After-slice_known-in-loop-i-1)) ∙ e)); rest = v.rest; same = v.same }))
-          c.if-work-notes-eq-CELL.branch,
+      elim c.if-work-notes-eq-CELL.branch [
+        | then-work-notes-eq-CELL w ↦ rw (w.t-is, w.work-is) (below_put _ (omega arith) v w.push_word-t.ensures.same (named_more v.front (noted ∙ w.if-work-notes-eq-CELL.true) w.push_word-t.ensures))
+        | else-work-notes-eq-CELL w ↦ rw (w.t-is, w.work-is) (record { front = named-skip v.front (λ e. w.if-work-notes-eq-CELL.false (sym noted ∙ e)); rest = v.rest; same = v.same })
+      ],
     )
 
 pub returns : goal.returns

@@ -8,7 +8,7 @@ use Rattle.cell.specs.Word.{STRUCT, value_of, tag_of, extent}
 use Rattle.cell.proofs.Words.{extent-heap-var, extent-stack-var, extent-struct, extent-list, const-refers-nothing}
 use Rattle.mark.proofs.Stacks.{pushable-part, pushed_none, pushed-marked, pushed-iff}
 use Rattle.mark.proofs.push_word.Goals as goal
-use Rattle.mark.proofs.push_word.Goals.{Start}
+use Rattle.mark.proofs.push_word.Goals.{Start, After-arity}
 
 -- a STRUCT's first cell is inside
 first-inside : (c : Start) → tag_of c.args.word ≡ STRUCT → value_of c.args.word < length c.args.marks.now
@@ -17,14 +17,10 @@ first-inside c t =
     c.requires.0.inside (value_of c.args.word) (omega arith)
 
 -- at a STRUCT: the word's extent, by the functor that was read
-module _ (c : tie.After-arity) where
-  abbrev entry : tie.Start
-  entry = c.before.before.before.before.before.before.before.before.before.before.before
-
-  struct-extent : extent entry.args.heap.now entry.args.word ≡ 1 + c.arity.result
-  struct-extent =
-      let functor = ap (λ (v : ℕ). get_or entry.args.heap.now v 0) c.before.before.before.before.before.before.value.ensures in
-      omega (arith, extent-struct entry.args.heap.now entry.args.word (omega arith))
+struct-extent : (c : After-arity) → extent c.args.heap.now c.args.word ≡ 1 + c.arity.result
+struct-extent c =
+    let functor = ap (λ (v : ℕ). get_or c.args.heap.now v 0) c.value-v.ensures in
+    omega (arith, extent-struct c.args.heap.now c.args.word (omega arith))
 
 pub returns-then-tag-eq-CONST : goal.returns-then-tag-eq-CONST
 returns-then-tag-eq-CONST c =
@@ -73,10 +69,10 @@ bounds-heap-a c =
 
 pub push_range-requires : goal.push_range-requires
 push_range-requires c =
-    let e = struct-extent c in
-    pushable-part (entry c).requires.0 (λ x r. omega arith)
+    let e = struct-extent (goal.at.push_range-requires c).After-arity in
+    pushable-part c.requires.0 (λ x r. omega arith)
 
 pub returns : goal.returns
 returns c =
-    let e = struct-extent (PLACE c After-arity) in
+    let e = struct-extent (goal.at.returns c).After-arity in
     pushed-iff (λ x r. omega arith) (λ x r. omega arith) c.push_range.ensures

@@ -1,5 +1,4 @@
-use Prim.Native.Nat.{ℕ, ◌+◌, ◌-◌, ◌≤◌}
-use mathlib.Core.Logic.{inl, inr, ⊎_elim}
+use Prim.Native.Nat.{ℕ, ◌+◌, ◌≤◌}
 use mathlib.Core.Path.{◌≡◌, refl, ap}
 use native.Mathlib.Omega.{arith}
 use lib.ListN.{get_or, set}
@@ -7,7 +6,7 @@ use Rattle.slide.specs.Closed.{Named, EntryMoved}
 use Rattle.slide.proofs.Closing.{Turned, stored, uncounted, passed-at}
 use Rattle.slide.proofs.Entries.{entries_none, entries-turn}
 use Rattle.slide.proofs.close_entries.Goals as goal
-use Rattle.slide.proofs.close_entries.Goals.{In-loop-i, Joined-keeps}
+use Rattle.slide.proofs.close_entries.Goals.{In-loop-i, Joined-keeps, then-keeps, else-keeps}
 
 -- the work words hold a count or a note for the entry at i
 names : (c : In-loop-i) → Named c.args.work.now c.args.notes (get_or c.loop-i.trail c.loop-i.i 0)
@@ -25,12 +24,12 @@ turned : (c : Joined-keeps) →
     (c.loop-i.k + c.if-keeps.one)
 turned c =
     elim c.if-keeps.branch [
-      | inl w ↦ stored w.0.taken c.moved_entry.ensures refl (ap (λ (one : ℕ). c.loop-i.k + one) w.1)
-      | inr w ↦ uncounted _ w.0.left refl (omega (arith, w.1))
+      | then-keeps w ↦ stored w.if-keeps.true c.moved_entry.ensures refl (ap (λ (one : ℕ). c.loop-i.k + one) w.one-is)
+      | else-keeps w ↦ uncounted _ w.if-keeps.false refl (omega (arith, w.one-is))
     ]
 
 one-most : (c : Joined-keeps) → c.if-keeps.one ≤ 1
-one-most c = ⊎_elim (λ w. omega (arith, w.1)) (λ w. omega (arith, w.1)) c.if-keeps.branch
+one-most c = elim c.if-keeps.branch [ then-keeps w ↦ omega (arith, w.one-is) | else-keeps w ↦ omega (arith, w.one-is) ]
 
 pub loop-i-init : goal.loop-i-init
 loop-i-init c = (omega arith, c.requires.order, entries_none _ _ _ _ _ c.requires.low)

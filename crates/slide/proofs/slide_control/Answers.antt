@@ -1,20 +1,14 @@
 use Prim.Native.Nat.{ℕ, ◌+◌, ◌≤◌, ◌-◌}
 use mathlib.Core.Path.{◌≡◌, sym, ◌∙◌}
-use mathlib.Core.Bool.{Bool}
 use mathlib.Core.List.{List}
 use native.Mathlib.Omega.{arith}
 use lib.ListN.{length, get_or, set, length-set}
 use Rattle.machine.specs.Layout.{T, H, N, place_of, fixed, field, argument}
 use Rattle.machine.proofs.InPlace.{InPlace, in-place-none, in-place-more, in-place-skip, in-place-end}
-use Rattle.counts.specs.Counts.{Counting}
-use Rattle.slide.specs.Slides.{move_control_word}
 use Rattle.slide.proofs.Words.{control-T, control-H, control-argument, control-low, control-high}
+use Rattle.slide.proofs.slide_control.Invariants.{Becomes}
 use Rattle.slide.proofs.slide_control.Goals as goal
 use Rattle.slide.proofs.slide_control.Goals.{At-loop-i}
-
--- what the word w at i of the control area becomes
-abbrev Becomes : List ℕ → ℕ → ℕ → ℕ → List ℕ → ℕ → ℕ → ℕ → Type 0
-Becomes work top total kept control i w v = (cells : ℕ → Bool) → Counting cells top work → v ≡ move_control_word cells total kept control i w
 
 -- T and H are written, and the other fields stay
 fields-done : (work : List ℕ) (top total kept : ℕ) (l : List ℕ) → fixed ≤ length l → InPlace (Becomes work top total kept l) l (set (set l (place_of T) kept) (place_of H) total) fixed
@@ -27,9 +21,6 @@ fields-done work top total kept l h =
 pub bounds-control-6 : goal.bounds-control-6
 bounds-control-6 c = omega (arith, c.requires.inside)
 
-pub overflow_add-end : goal.overflow_add-end
-overflow_add-end c = omega (arith, c.requires.inside, c.type_inv.control (place_of N))
-
 pub bounds-control-4 : goal.bounds-control-4
 bounds-control-4 c = omega (arith, c.requires.inside)
 
@@ -40,7 +31,7 @@ pub loop-i-init : goal.loop-i-init
 loop-i-init c = (omega arith, λ l e p. p)
 
 -- by the words at entry
-so_far : (c : At-loop-i) → let (PLACE c Start) = c.args in InPlace (Becomes c.work.now c.top c.total c.kept c.control.now) c.control.now c.loop-i.control c.loop-i.i
+so_far : (c : At-loop-i) → InPlace (Becomes c.args.work.now c.args.top c.args.total c.args.kept c.args.control.now) c.args.control.now c.loop-i.control c.loop-i.i
 unfolding field
 so_far c =
     let l = c.args.control.now in

@@ -1,6 +1,5 @@
-use Prim.Native.Nat.{ℕ, ◌-◌, ◌%◌}
+use Prim.Native.Nat.{ℕ, ◌%◌}
 use mathlib.Core.Path.{◌≡◌, ap, ◌∙◌}
-use mathlib.Core.Logic.{inl, inr}
 use mathlib.Core.Bool.{Bool}
 use native.Mathlib.Omega.{arith}
 use borrow.Author.Tests.{eq-eqb, ne_eqb}
@@ -11,7 +10,7 @@ use Rattle.counts.specs.Counts.{Counting}
 use Rattle.counts.proofs.Counting.{odd-cell}
 use Rattle.slide.proofs.Closing.{Turned, stored, skipped, passed_none, passed-at, passed-turn, closed_none, closed-turn, closed-end}
 use Rattle.slide.proofs.slide_heap.Goals as goal
-use Rattle.slide.proofs.slide_heap.Goals.{Joined-work-x-eq1}
+use Rattle.slide.proofs.slide_heap.Goals.{Joined-work-x-eq1, then-work-x-eq1, else-work-x-eq1}
 
 -- a kept cell is stored, any other passed over
 turned : (c : Joined-work-x-eq1) →
@@ -24,8 +23,8 @@ turned : (c : Joined-work-x-eq1) →
     c.if-work-x-eq1.to
 turned c =
     elim c.if-work-x-eq1.branch [
-      | inl w ↦ stored (eq-eqb _ 1 w.0.taken) w.2.ensures w.3 w.4
-      | inr w ↦ skipped (ne_eqb _ 1 w.0.left) w.1 w.2
+      | then-work-x-eq1 w ↦ stored (eq-eqb _ 1 w.if-work-x-eq1.true) w.moved_word.ensures w.heap-is w.to-is
+      | else-work-x-eq1 w ↦ skipped (ne_eqb _ 1 w.if-work-x-eq1.false) w.heap-is w.to-is
     ]
 
 pub loop-x-init : goal.loop-x-init

@@ -1,17 +1,6 @@
-use Prim.Native.Nat.{ℕ, ◌-◌}
-use mathlib.Core.Path.{◌≡◌}
-use mathlib.Core.Bool.{Bool}
-use mathlib.Core.List.{List}
 use native.Mathlib.Omega.{arith}
-use Rattle.machine.specs.Moved.{below}
 use Rattle.machine.proofs.InPlace.{in-place-none, in-place-more, in-place-end}
-use Rattle.counts.specs.Counts.{Counting}
-use Rattle.slide.specs.Slides.{move_cell}
 use Rattle.slide.proofs.slide_stack.Goals as goal
-
--- what the word w at i becomes
-abbrev Becomes : List ℕ → ℕ → ℕ → ℕ → ℕ → ℕ → ℕ → Type 0
-Becomes work notes top total i w v = (cells : ℕ → Bool) → Counting cells top work → total ≡ below cells top → v ≡ move_cell cells work notes i w
 
 pub loop-i-init : goal.loop-i-init
 loop-i-init c = in-place-none _ _

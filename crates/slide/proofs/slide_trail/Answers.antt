@@ -1,10 +1,9 @@
-use Prim.Native.Nat.{◌-◌, ◌≤◌, ◌<◌}
-use mathlib.Core.Logic.{inl, inr}
+use Prim.Native.Nat.{◌≤◌, ◌<◌}
 use native.Mathlib.Omega.{arith}
 use lib.ListN.{length, get_or}
 use Rattle.slide.proofs.Trails.{trailing-none, trailing-close, trailing-up, trailing-field, trailing-other, trailing-end}
 use Rattle.slide.proofs.slide_trail.Goals as goal
-use Rattle.slide.proofs.slide_trail.Goals.{Then-work-notes-eq-T_FIELD}
+use Rattle.slide.proofs.slide_trail.Goals.{Then-work-notes-eq-T_FIELD, then-work-notes-eq-T_FIELD, else-work-notes-eq-T_FIELD}
 
 -- the T field at i is between `from` and t
 up : (c : Then-work-notes-eq-T_FIELD) →
@@ -42,8 +41,8 @@ loop-i-preserved c =
     let p = c.requires in
     let l : c.loop-i.i < length c.args.stack.now = omega (arith, r.stacks.same) in
     elim c.if-work-notes-eq-T_FIELD.branch [
-      | inl w ↦ (omega arith, rw (w.6, w.8, w.9) (trailing-field p r l w.0.taken w.3.ensures w.7))
-      | inr w ↦ (omega arith, rw (w.1, w.2, w.3, w.4) (trailing-other r l w.0.left))
+      | then-work-notes-eq-T_FIELD w ↦ (omega arith, rw (w.trail-is, w.kept-is, w.from-is) (trailing-field p r l w.if-work-notes-eq-T_FIELD.true w.close_entries-kept.ensures w.stack-is))
+      | else-work-notes-eq-T_FIELD w ↦ (omega arith, rw (w.trail-is, w.stack-is, w.kept-is, w.from-is) (trailing-other r l w.if-work-notes-eq-T_FIELD.false))
     ]
 
 pub close_entries-kept-requires-2 : goal.close_entries-kept-requires-2

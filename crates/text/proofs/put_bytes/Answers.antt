@@ -1,4 +1,3 @@
-use Prim.Native.Nat.{◌-◌}
 use borrow.Author.Rules.{rules}
 use Rattle.text.proofs.Puttings.{bytes-row, putting-none, putting-more, putting-ends}
 use Rattle.text.proofs.put_bytes.Goals as goal

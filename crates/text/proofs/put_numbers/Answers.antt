@@ -1,4 +1,4 @@
-use Prim.Native.Nat.{ℕ, ◌-◌, ◌<◌}
+use Prim.Native.Nat.{ℕ, ◌<◌}
 use mathlib.Core.List.{[], ◌∷◌}
 use mathlib.Core.Path.{sym, ap, ◌∙◌}
 use native.Mathlib.Omega.{arith}
@@ -10,9 +10,6 @@ use Rattle.text.proofs.put_numbers.Goals as goal
 
 pub loop-i-init : goal.loop-i-init
 loop-i-init c = putting-none numbers numbers-row _ _ _
-
--- LOST cast-put-spaced : tie.Need-overflow-cast-put-spaced invariant-loop decreases-loop
--- cast-put-spaced c = omega (arith, c.shared-slice-known2.given c.before.before.before.loop.i)
 
 pub loop-i-preserved : goal.loop-i-preserved
 loop-i-preserved c =

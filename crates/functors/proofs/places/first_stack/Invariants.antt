@@ -9,7 +9,7 @@ use Rattle.functors.specs.Functors.{covers_stack, Tallied, Owned}
 use Rattle.functors.proofs.places.first_stack.Given as goal
 
 abbrev pub invariant-loop-i : goal.invariant-loop-i
-invariant-loop-i l = (l.i ≤ length l.stack) × ((firsts : ℕ → Bool) → Tallied firsts l.heap l.h l.work l.total → ((l.i : ℕ) → l.i < length l.stack → notes_cell l.work l.notes l.i ≡ true → Owned firsts (get_or l.stack l.i 0)) → Seeking (covers_stack firsts l.heap l.stack l.work l.notes) (length l.stack) l.i)
+invariant-loop-i l = (l.i ≤ length l.stack) × ((firsts : ℕ → Bool) → Tallied firsts l.heap l.h l.work l.total → ((k : ℕ) → k < length l.stack → notes_cell l.work l.notes k ≡ true → Owned firsts (get_or l.stack k 0)) → Seeking (covers_stack firsts l.heap l.stack l.work l.notes) (length l.stack) l.i)
 
 abbrev pub decreases-loop-i : goal.decreases-loop-i
 decreases-loop-i l = length l.stack - l.i

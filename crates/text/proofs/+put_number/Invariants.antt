@@ -1,0 +1,5 @@
+-- The measure of `text::put_number`: the number. Assumes nothing.
+use Rattle.text.proofs.+put_number.Given as goal
+
+abbrev pub decreases-put_number : goal.decreases-put_number
+decreases-put_number l = l.n
