@@ -1,6 +1,7 @@
 // The functions that an engine written in C links, by way of the static library `engine_c`. Each calls one entry of the library and gives
 // its answer as a struct of numbers. include/bikorashen.h declares these structs and functions once more, in the same order.
 #![tactic(auto)]
+
 mod calls;
 mod files;
 mod parts;
