@@ -1,8 +1,8 @@
 /*
  * Bikorashen: the garbage collector of a Prolog engine (a Warren machine).
  *
- * Link target/staticlib/libengine.a (x86-64 Linux; `rt staticlib engine` makes
- * it). It needs nothing but memset, allocates nothing, keeps nothing between
+ * Link target/staticlib/libengine.a (x86-64 Linux; `scripts/archive` makes it).
+ * It needs nothing but memset, allocates nothing, keeps nothing between
  * calls, and calls nothing back, so calls on different memory may run at the
  * same time in different threads.
  *

@@ -37,8 +37,7 @@ fn collected(answer: Collected) -> BikCollected
 }
 
 // Collects: `collect::collect` for C.
-#[unsafe(no_mangle)]
-pub extern "C" fn bik_collect(
+pub fn bik_collect(
     control: &mut [u32],
     stack: &mut [u32],
     heap: &mut [u32],
@@ -74,8 +73,7 @@ fn stepped(answer: Stepped) -> BikStepped
 }
 
 // Steps back to the newest choice point: `retreat::step_back` for C.
-#[unsafe(no_mangle)]
-pub extern "C" fn bik_step_back(
+pub fn bik_step_back(
     control: &mut [u32],
     stack: &mut [u32],
     heap: &mut [u32],

@@ -37,8 +37,7 @@ fn thawed(answer: Thawed) -> BikThawed
 }
 
 // Reads a file into the fronts of four lent areas: `freeze::thaw` for C.
-#[unsafe(no_mangle)]
-pub extern "C" fn bik_thaw(
+pub fn bik_thaw(
     file: &[u8],
     control: &mut [u32],
     stack: &mut [u32],
@@ -70,8 +69,7 @@ fn frozen(answer: Frozen) -> BikFrozen
 }
 
 // Writes four areas as a file: `freeze::freeze` for C.
-#[unsafe(no_mangle)]
-pub extern "C" fn bik_freeze(
+pub fn bik_freeze(
     control: &[u32],
     stack: &[u32],
     heap: &[u32],
@@ -109,8 +107,7 @@ fn record_read(answer: Record) -> BikRecord
 }
 
 // The record at an offset of a file: `freeze::record_at` for C.
-#[unsafe(no_mangle)]
-pub extern "C" fn bik_record_at(file: &[u8], offset: u64) -> BikRecord
+pub fn bik_record_at(file: &[u8], offset: u64) -> BikRecord
     ensures { ReadsForC file.now offset result }
 {
     record_read(freeze::record_at(file, offset as usize))

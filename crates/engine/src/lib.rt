@@ -1,15 +1,21 @@
-// The functions that an engine written in C links. Each calls one entry of the library and gives its answer as a struct of numbers.
-// include/bikorashen.h declares these structs and functions once more, in the same order.
+// The functions that an engine written in C links, by way of the static library `engine_c`. Each calls one entry of the library and gives
+// its answer as a struct of numbers. include/bikorashen.h declares these structs and functions once more, in the same order.
 #![tactic(auto)]
+
 mod calls;
 mod files;
 mod parts;
 mod reasons;
 mod why;
 
+pub use calls::{bik_collect, bik_step_back};
+pub use files::{bik_freeze, bik_record_at, bik_thaw};
+pub use parts::bik_look_up;
+pub use why::bik_why_held;
+
 // What a collection answers.
 #[repr(C)]
-#[derive(Drop)]
+#[derive(Clone, Copy)]
 pub struct BikCollected {
     pub refusal: u32,
     pub area: u32,
@@ -22,7 +28,7 @@ pub struct BikCollected {
 
 // What a step back answers.
 #[repr(C)]
-#[derive(Drop)]
+#[derive(Clone, Copy)]
 pub struct BikStepped {
     pub refusal: u32,
     pub area: u32,
@@ -32,7 +38,7 @@ pub struct BikStepped {
 
 // Why a heap cell is held.
 #[repr(C)]
-#[derive(Drop)]
+#[derive(Clone, Copy)]
 pub struct BikHeld {
     pub refusal: u32,
     pub area: u32,
@@ -45,7 +51,7 @@ pub struct BikHeld {
 
 // The part of an area that an address names.
 #[repr(C)]
-#[derive(Drop)]
+#[derive(Clone, Copy)]
 pub struct BikPart {
     pub area: u32,
     pub index: u64,
@@ -54,7 +60,7 @@ pub struct BikPart {
 
 // What the reader of a freeze file answers.
 #[repr(C)]
-#[derive(Drop)]
+#[derive(Clone, Copy)]
 pub struct BikThawed {
     pub refusal: u32,
     pub offset: u64,
@@ -66,7 +72,7 @@ pub struct BikThawed {
 
 // What the writer of a freeze file answers.
 #[repr(C)]
-#[derive(Drop)]
+#[derive(Clone, Copy)]
 pub struct BikFrozen {
     pub refusal: u32,
     pub bytes: u64,
@@ -74,7 +80,7 @@ pub struct BikFrozen {
 
 // One record of a freeze file.
 #[repr(C)]
-#[derive(Drop)]
+#[derive(Clone, Copy)]
 pub struct BikRecord {
     pub refusal: u32,
     pub offset: u64,

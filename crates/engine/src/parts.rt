@@ -7,8 +7,7 @@ use cell::STACK_BASE;
 
 // The part of the heap or of the stack that an address names: `machine::look_up` for C. The library gives the part's words, and how
 // many there are and the address say which part it is.
-#[unsafe(no_mangle)]
-pub extern "C" fn bik_look_up<'a>(heap: &'a [u32], stack: &'a [u32], address: u32) -> BikPart
+pub fn bik_look_up<'a>(heap: &'a [u32], stack: &'a [u32], address: u32) -> BikPart
     ensures { NamesPart heap.now stack.now address result }
 {
     let length = machine::look_up(heap, stack, address).len();

@@ -18,7 +18,7 @@ pub const CONTROL: u32 = 3;
 pub const TRAIL: u32 = 4;
 
 // Why an image is refused: the number, and the place where there is one, else zeros.
-#[derive(Drop)]
+#[derive(Clone, Copy)]
 pub struct Reason {
     pub number: u32,
     pub area: u32,
@@ -26,7 +26,7 @@ pub struct Reason {
 }
 
 // Why a file is refused: the number and the offset.
-#[derive(Drop)]
+#[derive(Clone, Copy)]
 pub struct FileReason {
     pub number: u32,
     pub offset: u64,

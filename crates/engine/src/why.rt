@@ -55,8 +55,7 @@ fn told(answer: Why) -> BikHeld
 }
 
 // Tells why a heap cell is held: `holder::why_held` for C.
-#[unsafe(no_mangle)]
-pub extern "C" fn bik_why_held(
+pub fn bik_why_held(
     control: &[u32],
     stack: &[u32],
     heap: &[u32],

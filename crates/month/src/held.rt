@@ -1,11 +1,12 @@
 // The bytes of the input that are held: a part of a buffer, moved to its front when it gets short.
-ghost use Rattle.std.specs.Prelude.{◌≡◌, ◌++◌, ◌+◌, ◌-◌, ◌≤◌, length, take, drop};
+ghost use Rattle.std.specs.Prelude.{◌≡◌, ◌++◌, ◌+◌, ◌-◌, ◌≤◌, length, take, drop, IfOk};
 ghost use Rattle.month.specs.Holding.{Holds, Enough};
 
-use libc::STDIN_FILENO;
+use std::io;
+use std::io::Read;
 
 // The part of the buffer that is not used up, and whether the input has ended.
-#[derive(Drop)]
+#[derive(Clone, Copy)]
 pub struct Held {
     pub from: usize,
     pub to: usize,
@@ -52,24 +53,24 @@ fn move_front(buffer: &mut [u8], from: usize, to: usize) -> usize
 }
 
 // Reads on where fewer bytes are held than the longest file has, until the buffer is full or the input ends.
-pub fn refill(buffer: &mut [u8], held: Held) -> Held
+pub fn refill<R: Read>(input: &mut R, buffer: &mut [u8], held: Held) -> io::Result<Held>
     requires { Holds held buffer.old }
-    ensures { Holds result buffer.new × Enough result }
+    ensures { IfOk result (λ h. Holds h buffer.new × Enough h) }
 {
     let from = held.from;
     let to = held.to;
     if held.ended {
-        return held;
+        return Ok(held);
     }
     if report::FILE_MOST <= to - from {
-        return held;
+        return Ok(held);
     }
     let kept = move_front(buffer, from, to);
-    let count = io::read_full(STDIN_FILENO, &mut buffer[kept..]);
+    let count = reading::read_full(input, &mut buffer[kept..])?;
     let full = kept + count == buffer.len();
-    Held {
+    Ok(Held {
         from: 0,
         to: kept + count,
         ended: !full,
-    }
+    })
 }

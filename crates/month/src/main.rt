@@ -8,11 +8,14 @@ ghost use Rattle.report.specs.First.{file_most};
 ghost use Rattle.report.specs.Most.{step_most};
 
 use held::{Held, refill};
-use libc::STDOUT_FILENO;
+use std::io;
+use std::io::Read;
 use written::make_room;
 
 // Steps until the report is closed.
-fn run(
+fn run<R: Read>(
+    rt: &impl Print,
+    input: &mut R,
     buffer: &mut [u8],
     control: &mut [u32],
     stack: &mut [u32],
@@ -20,14 +23,14 @@ fn run(
     trail: &mut [u32],
     work: &mut [u32],
     output: &mut [u8],
-)
+) -> io::Result<()>
     requires { (file_most ≤ length buffer.old) × (step_most ≤ length output.old) }
 {
     let mut held = Held::none();
     let mut at = 0;
     let mut month = report::begin();
     loop {
-        held = refill(buffer, held);
+        held = refill(input, buffer, held)?;
         let from = held.from;
         let to = held.to;
         let step = report::next(
@@ -43,17 +46,16 @@ fn run(
         );
         let end = step.at;
         if !step.more {
-            io::write_all(STDOUT_FILENO, &output[..end]);
-            return;
+            return rt.write_all(&output[..end]);
         }
         held = held.past(step.used);
-        at = make_room(output, end);
+        at = make_room(rt, output, end)?;
         let next = step.month;
         month = next;
     }
 }
 
-fn main() {
+fn main(rt: HostRuntime) -> io::Result<()> {
     let mut buffer = [0u8; 262144];
     let mut control = [0u32; 262];
     let mut stack = [0u32; 1024];
@@ -63,6 +65,8 @@ fn main() {
     let mut work = [0u32; 3072];
     let mut output = [0u8; 65536];
     run(
+        &rt,
+        &mut rt.stdin(),
         &mut buffer,
         &mut control,
         &mut stack,
@@ -70,5 +74,5 @@ fn main() {
         &mut trail,
         &mut work,
         &mut output,
-    );
+    )
 }

@@ -1,11 +1,11 @@
 // The listing program: a freeze file on standard input, its listing on standard output.
 #![tactic(auto)]
-use libc::{STDIN_FILENO, STDOUT_FILENO};
+use std::io;
 
-fn main() {
+fn main(rt: HostRuntime) -> io::Result<()> {
     // One byte more than the longest file that the buffers hold, so that a byte after its end is seen.
     let mut file = [0u8; 19249];
-    let n = io::read_full(STDIN_FILENO, &mut file);
+    let n = reading::read_full(&mut rt.stdin(), &mut file)?;
     let mut control = [0u32; 262];
     let mut stack = [0u32; 1024];
     let mut heap = [0u32; 2048];
@@ -23,5 +23,5 @@ fn main() {
         &mut work,
         &mut output,
     );
-    io::write_all(STDOUT_FILENO, &output[..m]);
+    rt.write_all(&output[..m])
 }

@@ -1,17 +1,42 @@
 // The listings of many freeze files: for each file that the arguments name, a line with the name, and its listing.
 #![tactic(auto)]
-use libc::STDOUT_FILENO;
+use std::env::{Env, FillError};
+use std::fs::File;
+use std::{fs, io};
+
+// What std says of an error, without the system's number of it.
+fn without_number(said: &str) -> &str {
+    match said.split_once(" (os error ") {
+        Some((text, _)) => text,
+        None => said,
+    }
+}
+
+// What failed, and why, as a line on standard error.
+fn complain(rt: &HostRuntime, what: &[u8], error: io::Error) -> io::Result<()> {
+    let said = error.to_string(rt.alloc())?;
+    let to = rt.stderr();
+    to.write_all(what)?;
+    to.write_all(b": ")?;
+    to.write_all(without_number(said.as_str()).as_bytes())?;
+    to.write_all(b"\n")
+}
+
+// The file of that name. A path of std is text, so that no other name is found.
+fn open(rt: &HostRuntime, name: &[u8]) -> io::Result<File> {
+    match std::str::from_utf8(name) {
+        Ok(path) => fs::open(rt, path),
+        Err(_) => Err(io::Error::from(io::ErrorKind::InvalidFilename)),
+    }
+}
 
 // One file.
-fn show(name: &[u8]) {
-    let fd = os::open_read(name);
-    if fd < 0 {
-        os::fail(name);
-        return;
-    }
+fn show(rt: &HostRuntime, name: &[u8]) -> io::Result<()> {
     let mut file = [0u8; 19249];
-    let n = io::read_full(fd, &mut file);
-    libc::close(fd);
+    let n = match open(rt, name) {
+        Ok(mut opened) => reading::read_full(&mut opened, &mut file)?,
+        Err(error) => return complain(rt, name, error),
+    };
     let mut control = [0u32; 262];
     let mut stack = [0u32; 1024];
     let mut heap = [0u32; 2048];
@@ -27,27 +52,24 @@ fn show(name: &[u8]) {
         &mut work,
         &mut output,
     );
-    io::write_all(STDOUT_FILENO, name);
-    io::write_all(STDOUT_FILENO, b"\n");
-    io::write_all(STDOUT_FILENO, &output[..m]);
+    rt.write_all(name)?;
+    rt.write_all(b"\n")?;
+    rt.write_all(&output[..m])
 }
 
-// The file that an argument names.
-fn show_argument(i: usize) {
-    let mut name = io::buffer();
-    let n = os::arg(i, &mut name);
-    if os::errno() != 0 {
-        os::fail(b"argument");
-        return;
+fn main(rt: HostRuntime) -> io::Result<()> {
+    // The program's name comes first.
+    for i in 1..usize::MAX {
+        let mut name = [0u8; 4096];
+        match rt.arg(i, &mut name) {
+            Ok(n) => show(&rt, &name[..n])?,
+            Err(FillError::TooLong) => complain(
+                &rt,
+                b"argument",
+                io::Error::from(io::ErrorKind::InvalidFilename),
+            )?,
+            Err(FillError::NotPresent) => return Ok(()),
+        }
     }
-    show(&name[..n]);
-}
-
-fn main() {
-    let count = os::arg_count();
-    let mut i = 1;
-    while i < count {
-        show_argument(i);
-        i += 1;
-    }
+    Ok(())
 }

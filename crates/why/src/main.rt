@@ -1,27 +1,28 @@
 // Why a heap cell is held: its index as the argument, a freeze file on standard input, the text on standard output.
 #![tactic(auto)]
-use libc::{STDIN_FILENO, STDOUT_FILENO};
+use std::env::{Env, FillError};
+use std::io;
 use telling::Asked;
 
 // What the one argument asks for.
-fn asked_for() -> Asked {
+fn asked_for(rt: &impl Env) -> Asked {
     // The program's name comes first.
-    if os::arg_count() != 2 {
+    let mut text = [0u8; 4096];
+    let Ok(n) = rt.arg(1, &mut text) else {
         return Asked::Bad;
-    }
-    let mut text = io::buffer();
-    let n = os::arg(1, &mut text);
-    if os::errno() != 0 {
+    };
+    let mut second = [0u8; 1];
+    let Err(FillError::NotPresent) = rt.arg(2, &mut second) else {
         return Asked::Bad;
-    }
+    };
     telling::read_index(&text[..n])
 }
 
 // The text for one heap cell of the file.
-fn tell(index: u32) {
+fn tell(rt: &HostRuntime, index: u32) -> io::Result<()> {
     // One byte more than the longest file that the buffers hold, so that a byte after its end is seen.
     let mut file = [0u8; 19249];
-    let n = io::read_full(STDIN_FILENO, &mut file);
+    let n = reading::read_full(&mut rt.stdin(), &mut file)?;
     let mut control = [0u32; 262];
     let mut stack = [0u32; 1024];
     let mut heap = [0u32; 2048];
@@ -43,16 +44,12 @@ fn tell(index: u32) {
         &mut room,
         &mut output,
     );
-    io::write_all(STDOUT_FILENO, &output[..m]);
+    rt.write_all(&output[..m])
 }
 
-fn main() {
-    let Asked::Index(index) = asked_for() else {
-        io::write_all(
-            STDOUT_FILENO,
-            b"give one heap index, in decimal, below 4294967296\n",
-        );
-        return;
+fn main(rt: HostRuntime) -> io::Result<()> {
+    let Asked::Index(index) = asked_for(&rt) else {
+        return rt.write_all(b"give one heap index, in decimal, below 4294967296\n");
     };
-    tell(index);
+    tell(&rt, index)
 }
