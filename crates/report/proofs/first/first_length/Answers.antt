@@ -3,7 +3,6 @@
 use Rattle.freeze.specs.Thaw.{counts_in, within, past_end}
 use Rattle.freeze.specs.Parts.{Small}
 use Rattle.freeze.specs.declared.AreaCounts.{AreaCounts}
-use borrow.Author.Tests.{not-true, not-false}
 use mathlib.Core.Bool.{true, false}
 use mathlib.Core.Path.{◌≡◌, sym, ap, ◌∙◌, subst}
 use Rattle.report.proofs.Firsts.{head, size_is, first_short, first_head, first-whole, small-counts}
@@ -17,16 +16,16 @@ returns-then-window-head c =
 pub returns-then-not-within : goal.returns-then-not-within
 returns-then-not-within c =
     let h : c.record_size-head.result ≡ head = c.record_size-head.ensures ∙ size_is in
-    let beyond : within (counts_in c.args.window.now) c.args.room ≡ false = sym (c.within.ensures ∙ ap (λ (n : AreaCounts). within n c.args.room) c.counts_in-n.ensures) ∙ not-true _ c.if-not-within.true-raw in
+    let beyond : within (counts_in c.args.window.now) c.args.room ≡ false = sym (c.within.ensures ∙ ap (λ (n : AreaCounts). within n c.args.room) c.counts_in-n.ensures) ∙ c.if-not-within.true in
     (h ∙ first_head c.args.room c.args.window.now (omega arith) beyond, omega arith)
 
 pub file_length-requires : goal.file_length-requires
 file_length-requires c =
-    let inside : within (counts_in c.args.window.now) c.args.room ≡ true = sym (c.within.ensures ∙ ap (λ (n : AreaCounts). within n c.args.room) c.counts_in-n.ensures) ∙ not-false _ c.if-not-within.false-raw in
+    let inside : within (counts_in c.args.window.now) c.args.room ≡ true = sym (c.within.ensures ∙ ap (λ (n : AreaCounts). within n c.args.room) c.counts_in-n.ensures) ∙ c.if-not-within.false in
     subst Small (sym c.counts_in-n.ensures) (small-counts c.args.room c.args.window.now c.requires inside)
 
 pub returns : goal.returns
 returns c =
-    let inside : within (counts_in c.args.window.now) c.args.room ≡ true = sym (c.within.ensures ∙ ap (λ (n : AreaCounts). within n c.args.room) c.counts_in-n.ensures) ∙ not-false _ c.if-not-within.false-raw in
+    let inside : within (counts_in c.args.window.now) c.args.room ≡ true = sym (c.within.ensures ∙ ap (λ (n : AreaCounts). within n c.args.room) c.counts_in-n.ensures) ∙ c.if-not-within.false in
     let long : c.file_length.result ≡ past_end (counts_in c.args.window.now) = c.file_length.ensures ∙ ap past_end c.counts_in-n.ensures in
     (c.least.ensures ∙ first-whole c.args.room c.args.window.now _ long inside, omega (arith, c.least.ensures))
