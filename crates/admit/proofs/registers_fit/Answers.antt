@@ -19,14 +19,8 @@ registers X control heap trail e f g =
     ∙ ap (λ (h : ℕ). leb (get_or control (place_of T) 0) (length X.trail) && (leb (get_or control (place_of H) 0) h && leb (fixed + get_or control (place_of N) 0) (length control))) f
     ∙ ap (λ (t : ℕ). leb (get_or control (place_of T) 0) t && (leb (get_or control (place_of H) 0) heap && leb (fixed + get_or control (place_of N) 0) (length control))) g
 
--- LOST cast-if1 : tie.Need-overflow-cast-if1
--- cast-if1 c = omega (arith, c.shared-slice-known.given (place_of T))
-
 pub returns-then-trail-control : goal.returns-then-trail-control
 returns-then-trail-control c = λ X e f g. let a = c.args in sym (registers X _ _ _ e f g ∙ rw (lt-leb (get_or a.control.now (place_of T) 0) a.trail (omega arith)))
-
--- LOST cast-if2 : tie.Need-overflow-cast-if2
--- cast-if2 c = omega (arith, c.shared-slice-known2.given (place_of H))
 
 pub returns-then-heap-control : goal.returns-then-heap-control
 returns-then-heap-control c = λ X e f g. let a = c.args in sym (registers X _ _ _ e f g ∙ rw (le-leb (get_or a.control.now (place_of T) 0) a.trail (omega arith), lt-leb (get_or a.control.now (place_of H) 0) a.heap (omega arith)))

@@ -25,9 +25,6 @@ offset_bounds-stack-at c = omega (arith, inside (goal.at.offset_bounds-stack-at 
 pub bounds-stack-at : goal.bounds-stack-at
 bounds-stack-at c = omega (arith, inside (goal.at.bounds-stack-at c).Else-not-point_sound)
 
--- LOST cast-note-point : tie.Need-overflow-cast-note-point invariant-loop decreases-loop
--- cast-note-point c = omega (arith, c.shared-slice-known2.given (c.before.before.before.before.before.loop.next + place_of N))
-
 pub note_point-requires : goal.note_point-requires
 note_point-requires c = omega (arith, inside (goal.at.note_point-requires c).Else-not-point_sound, c.loop-next.invariant.2.kept.same)
 

@@ -12,9 +12,6 @@ top-low : (c : After-mark) → get_or c.args.control.now (place_of H) 0 ≤ heap
 unfolding field
 top-low c = let p = c.requires in omega (arith, p.top, p.small)
 
--- LOST cast-count : tie.Need-overflow-cast-count
--- cast-count c = omega (arith, top-low c)
-
 pub count-requires : goal.count-requires
 unfolding field
 count-requires c = let p = c.requires in (omega (arith, p.top, p.room, c.mark.ensures.same), top-low (goal.at.count-requires c).After-mark)

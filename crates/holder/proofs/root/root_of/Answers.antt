@@ -6,9 +6,6 @@ use Rattle.machine.specs.declared.Area.TheVariants.{Stack, Control}
 use Rattle.machine.specs.Layout.{fixed, field}
 use Rattle.holder.proofs.root.root_of.Goals as goal
 
--- LOST cast-if1 : tie.Need-overflow-cast-if1
--- cast-if1 c = omega (arith, c.shared-slice-known5.given 6)
-
 pub overflow_add-result : goal.overflow_add-result
 overflow_add-result c = omega (arith, c.type_inv.control 6)
 

@@ -18,9 +18,6 @@ offset_bounds-room-i c = omega (arith, c.requires.fits)
 pub bounds-room-i : goal.bounds-room-i
 bounds-room-i c = omega (arith, c.requires.fits)
 
--- LOST cast-put-cell : tie.Need-overflow-cast-put-cell invariant-loop decreases-loop
--- cast-put-cell c = omega (arith, c.shared-slice-known3.given c.before.before.before.loop.i)
-
 pub put_cell-at-requires : goal.put_cell-at-requires
 put_cell-at-requires c = c.requires.inside c.loop-i.i (omega arith)
 
