@@ -1,19 +1,17 @@
 -- Structures that lie apart: the scan of `apart`, and what flags or counts then tell. Assumes nothing.
 use Prim.Native.Nat.{ℕ, ◌+◌, ◌%◌, ◌≤◌, ◌<◌}
 use mathlib.Core.Path.{◌≡◌, sym, ◌∙◌}
-use mathlib.Core.Bool.{Bool}
 use mathlib.Core.List.{List}
 use native.Mathlib.Omega.{arith}
 use native.Mathlib.Decide.{ℕ_discrete}
 use borrow.Author.Tests.{lt-ltb, le-ltb, ltb-true, eq-eqb, ne_eqb}
 use lib.ListN.{get_or}
-use lib.Dec.{eqb}
 use Rattle.cell.specs.Word.{arity_of}
 use Rattle.machine.proofs.Below.{below-lt}
 use Rattle.machine.proofs.FirstCells.{of_none}
 use Rattle.counts.specs.Counts.{marked_in, Counted}
 use Rattle.counts.proofs.Counting.{odd-cell}
-use Rattle.functors.specs.Functors.{Apart, Odd, Tallied}
+use Rattle.functors.specs.Functors.{Apart, Tallied}
 
 -- ---- the turn x of `apart`
 

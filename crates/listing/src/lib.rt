@@ -1,5 +1,6 @@
 // The listing: a freeze file collected and written as text. What is right stands in specs/, under its sentences of document 01.
 #![tactic(auto)]
+
 mod lines;
 mod numbers;
 

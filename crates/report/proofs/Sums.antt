@@ -40,24 +40,24 @@ one_more l m n h =
 
 module _ {room : AreaCounts} {work : ℕ} where
   -- one step
-  step-total : {month month' : Month} {file text : List ℕ} {left : Image} (s : Steps room work month file (goes_on text month' left)) (later : List Tally)
+  step-total : {month : Month} {file : List ℕ} {month' : Month} {text : List ℕ} {left : Image} (s : Steps room work month file (goes_on text month' left)) (later : List Tally)
       → total_from month.total (map Figures (add_figures s later)) ≡ total_from month'.total (map Figures later)
   unfolding add_figures with_figures with_refused total_from
   step-total (refused_image number place opened whole v) later = refl
   step-total (counted Y opened whole v to) later = refl
 
-  step-accepted : {month month' : Month} {file text : List ℕ} {left : Image} (s : Steps room work month file (goes_on text month' left)) (later : List Tally)
+  step-accepted : {month : Month} {file : List ℕ} {month' : Month} {text : List ℕ} {left : Image} (s : Steps room work month file (goes_on text month' left)) (later : List Tally)
       → month.accepted + length (add_figures s later) ≡ month'.accepted + length later
   unfolding add_figures with_figures with_refused
   step-accepted (refused_image number place opened whole v) later = refl
   step-accepted (counted Y opened whole v to) later = omega arith
 
-  step-numbers : {month month' : Month} {file text : List ℕ} {left : Image} → Steps room work month file (goes_on text month' left) → length month'.refused ≡ length month.refused
+  step-numbers : {month : Month} {file : List ℕ} {month' : Month} {text : List ℕ} {left : Image} → Steps room work month file (goes_on text month' left) → length month'.refused ≡ length month.refused
   unfolding with_figures with_refused
   step-numbers {month} (refused_image number place opened whole v) = length-set month.refused number (get_or month.refused number 0 + 1)
   step-numbers (counted Y opened whole v to) = refl
 
-  step-refused : {month month' : Month} {file text : List ℕ} {left : Image} (s : Steps room work month file (goes_on text month' left)) (later : List ℕ) (n : ℕ) → n < length month.refused
+  step-refused : {month : Month} {file : List ℕ} {month' : Month} {text : List ℕ} {left : Image} (s : Steps room work month file (goes_on text month' left)) (later : List ℕ) (n : ℕ) → n < length month.refused
       → get_or month.refused n 0 + times n (add_number s later) ≡ get_or month'.refused n 0 + times n later
   unfolding add_number with_figures with_refused times
   step-refused {month} (refused_image number place opened whole v) later n h = omega (arith, one_more month.refused number n h)

@@ -15,12 +15,12 @@ use Rattle.report.specs.Reports.{goes_on, Steps, refused_image, counted, Reports
 
 module _ {room : AreaCounts} {work : ℕ} where
   -- the figures of a file that is accepted, in front of those of the files after it
-  unfoldable pub add_figures : {month month' : Month} {file text : List ℕ} {left : Image} → Steps room work month file (goes_on text month' left) → List Tally → List Tally
+  unfoldable pub add_figures : {month : Month} {file : List ℕ} {month' : Month} {text : List ℕ} {left : Image} → Steps room work month file (goes_on text month' left) → List Tally → List Tally
   add_figures (refused_image number place opened whole v) later = later
   add_figures {file = file} (counted Y opened whole v to) later = tally_of to.cells to.entries (image_of_file file) ∷ later
 
   -- the number of a file that is refused, in front of those of the files after it
-  unfoldable pub add_number : {month month' : Month} {file text : List ℕ} {left : Image} → Steps room work month file (goes_on text month' left) → List ℕ → List ℕ
+  unfoldable pub add_number : {month : Month} {file : List ℕ} {month' : Month} {text : List ℕ} {left : Image} → Steps room work month file (goes_on text month' left) → List ℕ → List ℕ
   add_number (refused_image number place opened whole v) later = number ∷ later
   add_number (counted Y opened whole v to) later = later
 

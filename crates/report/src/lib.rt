@@ -1,6 +1,7 @@
 // The monthly report: figures over freeze files laid end to end, as text. What is right stands in specs/, under its sentences of
 // document 02.
 #![tactic(auto)]
+
 mod first;
 mod lines;
 mod steps;
@@ -28,7 +29,7 @@ const NUMBERS: usize = 32;
 
 // What the files so far came to: how many, and how many of them were accepted; where the rest starts in the whole input; the total of
 // the accepted; and how many images were refused under each number.
-#[derive(Drop)]
+#[derive(Clone, Copy)]
 pub struct Month {
     pub files: u64,
     pub accepted: u64,

@@ -6,7 +6,6 @@ use native.Mathlib.Omega.{arith}
 use lib.ListN.{length}
 use lib.Seq.{length-take-le}
 use Rattle.machine.specs.Layout.{Image, H, fixed, reg}
-use Rattle.machine.specs.Refusals.{accepted}
 use Rattle.machine.specs.Answers.{work_after}
 use Rattle.freeze.specs.declared.AreaCounts.{AreaCounts}
 use Rattle.freeze.specs.declared.FileRefusal.{FileRefusal}

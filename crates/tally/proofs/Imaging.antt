@@ -10,7 +10,7 @@ use Rattle.machine.specs.declared.Refusal.{Refusal}
 use Rattle.machine.specs.declared.Collected.TheVariants as collecting
 use Rattle.machine.specs.Layout.{Image, H, reg}
 use Rattle.machine.specs.Refusals.{Verdict, accepted, refused, verdict, work_words}
-use Rattle.machine.specs.Answers.{Answer, answer_of, refusal, counted, verdict_of, pick_words, work_after, Collects}
+use Rattle.machine.specs.Answers.{Answer, answer_of, counted, verdict_of, pick_words, work_after, Collects}
 use Rattle.machine.proofs.Firsts.{refused-not}
 use Rattle.machine.proofs.Checks.{enough-iff}
 use Rattle.machine.proofs.Verdicts.{verdict-accepted}

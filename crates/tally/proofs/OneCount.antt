@@ -8,8 +8,6 @@ use native.Mathlib.Omega.{arith}
 use lib.ListN.{length, get_or}
 use lib.Dec.{eqb}
 use Rattle.machine.specs.Layout.{Image, T, H, reg}
-use Rattle.machine.specs.Refusals.{accepted}
-use Rattle.machine.specs.Answers.{verdict_of}
 use Rattle.machine.specs.Moved.{below, CollectedTo}
 use Rattle.machine.proofs.Below.{below-same}
 use Rattle.machine.proofs.Injective.{verdict_of-injective}

@@ -11,7 +11,7 @@ use lib.ListN.{length, get_or}
 use lib.Dec.{eqb}
 use Rattle.machine.specs.Layout.{Image, Field, L, E, B, T, H, none, reg, at, field, size_of, size_at, link_at, link_place, place_of, word}
 use Rattle.machine.specs.Roles.{Role, CE, own}
-use Rattle.machine.specs.Chains.{Thing, frame, point, fuel_of, frames, points, walk}
+use Rattle.machine.specs.Chains.{Thing, fuel_of, frames, points, walk}
 use Rattle.machine.proofs.Tests.{either}
 use Rattle.machine.proofs.Layouts.{at-word}
 use Rattle.machine.proofs.Chains.{Point, newest, older, View, of_control, of_point, parent, Is, link, in_point, Linked, point-bounds, view-ends}

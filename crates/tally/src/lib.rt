@@ -1,5 +1,6 @@
 // The figures of a freeze file, and a running tally of them. What is right stands in specs/, under its sentences of document 02.
 #![tactic(auto)]
+
 mod frames;
 mod heaps;
 mod tallies;
@@ -18,7 +19,7 @@ use heaps::{keep_heap, read_heap};
 use machine::{Collected, Counts, H, Refusal};
 
 // Heap cells by tag.
-#[derive(Drop)]
+#[derive(Clone, Copy)]
 pub struct Tags {
     pub var: u64,
     pub structure: u64,
@@ -27,7 +28,7 @@ pub struct Tags {
 }
 
 // The figures of a file, or of several together.
-#[derive(Drop)]
+#[derive(Clone, Copy)]
 pub struct Tally {
     pub kept: Tags,
     pub dropped: Tags,

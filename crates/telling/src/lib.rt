@@ -1,5 +1,6 @@
 // Why a heap cell is held, told as text. What is right stands in specs/.
 #![tactic(auto)]
+
 mod lines;
 mod number;
 mod owners;

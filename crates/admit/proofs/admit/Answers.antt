@@ -5,7 +5,6 @@ use mathlib.Core.List.{List}
 use mathlib.Core.Path.{◌≡◌, sym, ◌∙◌}
 use mathlib.Core.Bool.{true}
 use native.Mathlib.Omega.{arith}
-use borrow.Author.Tests.{not-true, not-false}
 use lib.ListN.{length}
 use Rattle.machine.specs.Layout.{Image}
 use Rattle.machine.specs.Refusals.{enough}
@@ -24,10 +23,10 @@ tested c = c.sizes_enough.ensures ∙ lengths-enough (image_of c.args.control.no
 
 -- the sizes pass
 enough-work : (c : Else-not-sizes_enough) → enough (length c.args.work.now) (image_of c.args.control.now c.args.stack.now c.args.heap.now c.args.trail.now) ≡ true
-enough-work c = sym (c.sizes_enough.ensures ∙ lengths-enough (image_of c.args.control.now c.args.stack.now c.args.heap.now c.args.trail.now) c.args.work.now) ∙ not-false _ c.if-not-sizes_enough.false-raw
+enough-work c = sym (c.sizes_enough.ensures ∙ lengths-enough (image_of c.args.control.now c.args.stack.now c.args.heap.now c.args.trail.now) c.args.work.now) ∙ c.if-not-sizes_enough.false
 
 pub returns-then-not-sizes_enough : goal.returns-then-not-sizes_enough
-returns-then-not-sizes_enough c = sizes-stop (image_of c.args.control.now c.args.stack.now c.args.heap.now c.args.trail.now) _ (sym (tested (goal.at.returns-then-not-sizes_enough c).After-sizes_enough) ∙ not-true _ c.if-not-sizes_enough.true-raw)
+returns-then-not-sizes_enough c = sizes-stop (image_of c.args.control.now c.args.stack.now c.args.heap.now c.args.trail.now) _ (sym (tested (goal.at.returns-then-not-sizes_enough c).After-sizes_enough) ∙ c.if-not-sizes_enough.true)
 
 pub clear-requires : goal.clear-requires
 clear-requires c = (omega arith, ((enough-iff (image_of c.args.control.now c.args.stack.now c.args.heap.now c.args.trail.now) _).0 (enough-work (goal.at.clear-requires c).Else-not-sizes_enough)).1)

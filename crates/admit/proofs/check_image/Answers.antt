@@ -5,7 +5,6 @@ use mathlib.Core.List.{List}
 use mathlib.Core.Path.{◌≡◌, refl, sym, subst, ◌∙◌}
 use mathlib.Core.Bool.{true}
 use native.Mathlib.Omega.{arith}
-use borrow.Author.Tests.{not-true, not-false}
 use lib.ListN.{length}
 use Rattle.machine.specs.Layout.{Image}
 use Rattle.machine.specs.Layout.{none}
@@ -24,14 +23,14 @@ tested : (c : After-registers_fit) → c.registers_fit.result ≡ fits (image_of
 tested c = c.registers_fit.ensures (image_of c.args.control.now c.args.stack.now c.args.heap.now c.args.trail.now) refl refl refl
 
 fit : (c : Else-not-registers_fit) → fits (image_of c.args.control.now c.args.stack.now c.args.heap.now c.args.trail.now) ≡ true
-fit c = sym (c.registers_fit.ensures _ refl refl refl) ∙ not-false _ c.if-not-registers_fit.false-raw
+fit c = sym (c.registers_fit.ensures _ refl refl refl) ∙ c.if-not-registers_fit.false
 
 -- what the walk answered, where it found no fault
 whole-walked : (c : Else-fault) → Walks (image_of c.args.control.now c.args.stack.now c.args.heap.now c.args.trail.now) c.args.work.now (length c.args.heap.now) none c.walk-fault.new.work
 whole-walked c = subst (λ (r : ℕ). Walks (image_of c.args.control.now c.args.stack.now c.args.heap.now c.args.trail.now) c.args.work.now (length c.args.heap.now) r c.walk-fault.new.work) c.if-fault.false (c.walk-fault.ensures _ refl refl)
 
 pub returns-then-not-registers_fit : goal.returns-then-not-registers_fit
-returns-then-not-registers_fit c = registers-stop (image_of c.args.control.now c.args.stack.now c.args.heap.now c.args.trail.now) _ (sym (tested (goal.at.returns-then-not-registers_fit c).After-registers_fit) ∙ not-true _ c.if-not-registers_fit.true-raw)
+returns-then-not-registers_fit c = registers-stop (image_of c.args.control.now c.args.stack.now c.args.heap.now c.args.trail.now) _ (sym (tested (goal.at.returns-then-not-registers_fit c).After-registers_fit) ∙ c.if-not-registers_fit.true)
 
 pub walk-fault-requires : goal.walk-fault-requires
 walk-fault-requires c =

@@ -1,4 +1,3 @@
-use Prim.Native.Nat.{◌-◌}
 use native.Mathlib.Omega.{arith}
 use Rattle.chains.proofs.Stores.{gains-none, gains-end}
 use Rattle.chains.proofs.Offsets.{field-gains, point-gains}

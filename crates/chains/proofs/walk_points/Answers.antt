@@ -1,8 +1,6 @@
 use Prim.Native.Nat.{◌+◌, ◌≤◌}
-use borrow.Author.Tests.{not-true, not-false}
 use native.Mathlib.Omega.{arith}
 use Rattle.machine.specs.Layout.{B, N, fixed, place_of}
-use Rattle.machine.specs.Chains.{point}
 use Rattle.chains.proofs.Readings.{field_in, point-ok, point-broken, point-ends}
 use Rattle.chains.proofs.Walkings.{walking_start, walking-point, walked_none, walked-broken, walked-frame-broken}
 use Rattle.chains.proofs.walk_points.Goals as goal
@@ -10,13 +8,13 @@ use Rattle.chains.proofs.walk_points.Goals.{Else-not-point_sound}
 
 -- a choice point that passed its test lies in the stack
 inside : (c : Else-not-point_sound) → c.loop-next.next + fixed + field_in c.args.stack.now c.loop-next.next N ≤ c.loop-next.end
-inside c = point-ends (point-ok c.point_sound.ensures (not-false _ c.if-not-point_sound.false-raw))
+inside c = point-ends (point-ok c.point_sound.ensures c.if-not-point_sound.false)
 
 pub loop-next-init : goal.loop-next-init
 loop-next-init c = (omega arith, omega arith, walking_start)
 
 pub returns-then-not-point_sound : goal.returns-then-not-point_sound
-returns-then-not-point_sound c = walked-broken c.loop-next.invariant.2 c.loop-next-test.true (point-broken c.point_sound.ensures (not-true _ c.if-not-point_sound.true-raw))
+returns-then-not-point_sound c = walked-broken c.loop-next.invariant.2 c.loop-next-test.true (point-broken c.point_sound.ensures c.if-not-point_sound.true)
 
 pub overflow_add-at : goal.overflow_add-at
 overflow_add-at c = omega (arith, inside (goal.at.overflow_add-at c).Else-not-point_sound)
@@ -59,7 +57,7 @@ returns-then-fault c =
     walked-frame-broken
     c.loop-next.invariant.2
     c.loop-next-test.true
-    (point-ok c.point_sound.ensures (not-false _ c.if-not-point_sound.false-raw))
+    (point-ok c.point_sound.ensures c.if-not-point_sound.false)
     c.note_point.ensures
     c.loop-next.invariant.0
     c.walk_frames-fault.ensures
@@ -102,7 +100,7 @@ loop-next-preserved c = (
   walking-point
       c.loop-next.invariant.2
       c.loop-next-test.true
-      (point-ok c.point_sound.ensures (not-false _ c.if-not-point_sound.false-raw))
+      (point-ok c.point_sound.ensures c.if-not-point_sound.false)
       c.note_point.ensures
       c.loop-next.invariant.0
       c.walk_frames-fault.ensures

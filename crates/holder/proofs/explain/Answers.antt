@@ -2,7 +2,7 @@
 use Prim.Native.Nat.{◌<◌}
 use mathlib.Core.Path.{◌≡◌, sym, ◌∙◌}
 use native.Mathlib.Omega.{arith}
-use borrow.Author.Tests.{eqb-true, eqb-false, not-true, not-false}
+use borrow.Author.Tests.{eqb-true, eqb-false}
 use lib.ListN.{get_or}
 use Rattle.machine.specs.Layout.{H, field}
 use Rattle.queue.specs.Filled.{met_bit}
@@ -17,10 +17,10 @@ low c = omega arith
 
 -- what `is_met` answered of it
 not-met : (c : Then-not-is_met) → met_bit (get_or c.fill-tail.new.work c.args.x 0) ≡ 1 → ⊥
-not-met c = eqb-false _ _ (sym c.is_met.ensures ∙ not-true _ c.if-not-is_met.true-raw)
+not-met c = eqb-false _ _ (sym c.is_met.ensures ∙ c.if-not-is_met.true)
 
 met : (c : Else-not-is_met) → met_bit (get_or c.fill-tail.new.work c.args.x 0) ≡ 1
-met c = eqb-true _ _ (sym c.is_met.ensures ∙ not-false _ c.if-not-is_met.false-raw)
+met c = eqb-true _ _ (sym c.is_met.ensures ∙ c.if-not-is_met.false)
 
 pub returns-then-control-x : goal.returns-then-control-x
 unfolding field

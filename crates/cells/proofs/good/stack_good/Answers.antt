@@ -1,7 +1,5 @@
-use Prim.Native.Nat.{◌-◌}
 use mathlib.Core.Path.{refl}
 use native.Mathlib.Omega.{arith}
-use borrow.Author.Tests.{not-false}
 use Rattle.machine.proofs.Tests.{true-false}
 use Rattle.cells.proofs.Seeking.{clean-none, clean-more, clean_end}
 use Rattle.cells.proofs.good.stack_good.Goals as goal
@@ -13,7 +11,7 @@ pub returns-then-not-cell_good : goal.returns-then-not-cell_good
 returns-then-not-cell_good c = λ e. true-false e refl
 
 pub loop-i-preserved : goal.loop-i-preserved
-loop-i-preserved c = let good = c.cell_good.ensures (not-false _ c.if-not-cell_good.false-raw) in (omega arith, clean-more c.loop-i.invariant.1 good.0 good.1)
+loop-i-preserved c = let good = c.cell_good.ensures c.if-not-cell_good.false in (omega arith, clean-more c.loop-i.invariant.1 good.0 good.1)
 
 pub returns : goal.returns
 returns c = λ e. clean_end c.loop-i.invariant.1 (omega arith)

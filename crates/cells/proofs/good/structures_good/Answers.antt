@@ -1,8 +1,7 @@
-use Prim.Native.Nat.{◌-◌, ◌<◌}
+use Prim.Native.Nat.{◌<◌}
 use mathlib.Core.Path.{◌≡◌, refl, sym, ap, ◌∙◌}
 use mathlib.Core.Bool.{true, not}
 use native.Mathlib.Omega.{arith}
-use borrow.Author.Tests.{not-true, not-false}
 use lib.ListN.{get_or}
 use Rattle.machine.specs.Refusals.{refers_well}
 use Rattle.machine.proofs.Tests.{true-false}
@@ -25,7 +24,7 @@ well : (c : Joined-tag-eq-STRUCT) → refers_well c.args.h c.args.heap.now (get_
 well c =
     let l = (near-iff _ _ _).0 (c.requires.2.well c.loop-i.i (omega arith)) in
     elim c.if-tag-eq-STRUCT.branch [
-      | then-tag-eq-STRUCT+else-not-functor_good w ↦ near-struct _ _ _ l (omega arith) w.value-v.ensures ∙ sym w.functor_good.ensures ∙ not-false _ w.if-not-functor_good.false-raw
+      | then-tag-eq-STRUCT+else-not-functor_good w ↦ near-struct _ _ _ l (omega arith) w.value-v.ensures ∙ sym w.functor_good.ensures ∙ w.if-not-functor_good.false
       | else-tag-eq-STRUCT w ↦ near-well _ _ _ l (λ e. omega arith) (omega arith)
     ]
 
@@ -43,7 +42,7 @@ unfolding wrong_heap
 returns-then-not-functor_good c = (
   λ e. true-false e refl,
   λ k.
-      let fault = near-struct _ _ _ (near (goal.at.returns-then-not-functor_good c).In-loop-i) (omega arith) c.value-v.ensures ∙ sym c.functor_good.ensures ∙ not-true _ c.if-not-functor_good.true-raw in
+      let fault = near-struct _ _ _ (near (goal.at.returns-then-not-functor_good c).In-loop-i) (omega arith) c.value-v.ensures ∙ sym c.functor_good.ensures ∙ c.if-not-functor_good.true in
       true-false (ap not fault) (k.well c.loop-i.i (omega arith)),
 )
 

@@ -1,7 +1,6 @@
 -- `cells::good::values_good` meets its contract: no fault is counted below i exactly where every cell below i is clean. Assumes nothing.
 use Prim.Native.Nat.{◌-◌, ◌*◌, ◌≤◌}
 use mathlib.Core.Path.{◌≡◌}
-use mathlib.Core.Logic.Iff
 use mathlib.Core.Logic.{◌↔◌}
 use Rattle.cells.specs.Cells.{far_in, marked_in, Clean}
 use Rattle.cells.proofs.good.values_good.Given as goal

@@ -1,4 +1,3 @@
-use Prim.Native.Nat.{◌-◌}
 use native.Mathlib.Omega.{arith}
 use Rattle.machine.proofs.Checks.{bits-iff}
 use Rattle.machine.specs.Layout.{argument}

@@ -1,7 +1,5 @@
-use Prim.Native.Nat.{◌-◌}
 use mathlib.Core.Path.{sym, ◌∙◌}
 use native.Mathlib.Omega.{arith}
-use Rattle.cells.specs.Cells.{marked_cell}
 use Rattle.cells.proofs.Seeking.{seek-none, seek-more, seek_found, seek-end}
 use Rattle.cells.proofs.marked.first_marked_stack.Goals as goal
 

@@ -1,6 +1,4 @@
-use Prim.Native.Nat.{◌-◌}
 use mathlib.Core.Path.{sym, ◌∙◌}
-use mathlib.Core.Bool.{true}
 use native.Mathlib.Omega.{arith}
 use Rattle.cells.proofs.Seeking.{seek-none, seek-more, seek_found, seek-end}
 use Rattle.functors.proofs.places.first_stack.Goals as goal

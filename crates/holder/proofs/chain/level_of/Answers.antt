@@ -2,7 +2,7 @@ use Prim.Native.Nat.{◌<◌}
 use mathlib.Core.Path.{◌≡◌, sym, ◌∙◌}
 use native.Mathlib.Omega.{arith}
 use native.Mathlib.Decide.{ℕ_discrete}
-use borrow.Author.Tests.{eqb-true, eqb-false, not-true, not-false}
+use borrow.Author.Tests.{eqb-true, eqb-false}
 use Rattle.queue.specs.Filled.{begins_at}
 use Rattle.holder.proofs.Levels.{begins-later, none-earlier}
 use Rattle.holder.proofs.chain.level_of.Goals as goal
@@ -10,13 +10,13 @@ use Rattle.holder.proofs.chain.level_of.Goals.{After-loop-i, In-loop-i}
 
 -- what `begins_level` answered at the loop's place
 begun : (c : After-loop-i) → begins_at c.args.work.now c.loop-i.i ≡ 1
-begun c = eqb-true _ _ (sym c.begins_level.ensures ∙ not-false _ c.loop-i-test.false-raw)
+begun c = eqb-true _ _ (sym c.begins_level.ensures ∙ c.loop-i-test.false)
 
 not-begun : (c : In-loop-i) → begins_at c.args.work.now c.loop-i.i ≡ 0
 not-begun c =
     let w = c.args.work.now in
     let i = c.loop-i.i in
-    let n = eqb-false (begins_at w i) 1 (sym c.begins_level.ensures ∙ not-true _ c.loop-i-test.true-raw) in
+    let n = eqb-false (begins_at w i) 1 (sym c.begins_level.ensures ∙ c.loop-i-test.true) in
     elim (ℕ_discrete (begins_at w i) 1) [
       | yes e ↦ absurd (n e)
       | no m ↦ omega arith
