@@ -1,5 +1,4 @@
 -- `month::run` is safe and ends: what a step answers lies inside the output and inside what is held (`Learnt`). Assumes nothing.
-use Rattle.std.proofs.Common.{rules, ◌≤◌, ◌-◌, length}
 use native.Mathlib.Omega.{arith}
 use borrow.Author.Tests.{not-false}
 use lib.ListN.{length-take, length-drop}
