@@ -1,6 +1,7 @@
 // The archive that an engine written in C links: the functions of `engine` under their C names, each with the same clauses.
 // include/bikorashen.h declares them, in the same order.
 #![tactic(auto)]
+
 ghost use Rattle.freeze.specs.Thaw.{image_of};
 ghost use Rattle.engine.specs.Calls.{CollectsForC, StepsBackForC};
 ghost use Rattle.engine.specs.Why.{ExplainsForC};

@@ -1,5 +1,5 @@
 -- A buffer that was read into: it is full, and then holds the longest file, or the input has ended. Assumes nothing.
-use Prim.Native.Nat.{ℕ, ◌+◌, ◌-◌, ◌≤◌}
+use Prim.Native.Nat.{ℕ, ◌+◌, ◌≤◌}
 use mathlib.Core.Path.{◌≡◌, ap}
 use mathlib.Core.Logic.{inl, inr}
 use mathlib.Core.Bool.{not}

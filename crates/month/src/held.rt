@@ -1,5 +1,5 @@
 // The bytes of the input that are held: a part of a buffer, moved to its front when it gets short.
-ghost use Rattle.std.specs.Prelude.{◌≡◌, ◌++◌, ◌+◌, ◌-◌, ◌≤◌, length, take, drop, IfOk};
+ghost use Rattle.std.specs.Prelude.{◌≡◌, ◌++◌, ◌+◌, ◌-◌, ◌≤◌, length, take, drop, IfOk, OnErr};
 ghost use Rattle.month.specs.Holding.{Holds, Enough};
 
 use std::io;
@@ -52,10 +52,12 @@ fn move_front(buffer: &mut [u8], from: usize, to: usize) -> usize
     count
 }
 
-// Reads on where fewer bytes are held than the longest file has, until the buffer is full or the input ends.
+// Reads on where fewer bytes are held than the longest file has, until the buffer is full or the input ends. Where a read fails, its error
+// is the answer, and the bytes that were held stand at the buffer's front.
 pub fn refill<R: Read>(input: &mut R, buffer: &mut [u8], held: Held) -> io::Result<Held>
     requires { Holds held buffer.old }
-    ensures { IfOk result (λ h. Holds h buffer.new × Enough h) }
+    ensures ok { IfOk result (λ h. Holds h buffer.new × Enough h) }
+    ensures err { OnErr result (take (held.to - held.from) buffer.new ≡ take (held.to - held.from) (drop held.from buffer.old)) }
 {
     let from = held.from;
     let to = held.to;

@@ -1,5 +1,6 @@
 // The monthly report program: freeze files laid end to end on standard input, their report on standard output.
 #![tactic(auto)]
+
 mod held;
 mod written;
 

@@ -1,5 +1,6 @@
 // The listing program: a freeze file on standard input, its listing on standard output.
 #![tactic(auto)]
+
 use std::io;
 
 fn main(rt: HostRuntime) -> io::Result<()> {

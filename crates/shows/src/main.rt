@@ -1,5 +1,6 @@
 // The listings of many freeze files: for each file that the arguments name, a line with the name, and its listing.
 #![tactic(auto)]
+
 use std::env::{Env, FillError};
 use std::fs::File;
 use std::{fs, io};

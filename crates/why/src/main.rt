@@ -1,5 +1,6 @@
 // Why a heap cell is held: its index as the argument, a freeze file on standard input, the text on standard output.
 #![tactic(auto)]
+
 use std::env::{Env, FillError};
 use std::io;
 use telling::Asked;

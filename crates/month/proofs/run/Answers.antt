@@ -1,5 +1,4 @@
 -- `month::run` is safe and ends: what a step answers lies inside the output and inside what is held (`Learnt`). Assumes nothing.
-use Rattle.std.proofs.Common.{rules, ◌≤◌, ◌-◌, length}
 use native.Mathlib.Omega.{arith}
 use borrow.Author.Tests.{not-false}
 use lib.ListN.{length-take, length-drop}
@@ -26,7 +25,7 @@ loop-held-smaller g c = step_falls c.next-step.ensures.nexts (not-false _ c.if-n
 
 pub loop-held-preserved : goal.loop-held-preserved
 loop-held-preserved g c =
-    let h = c.in_ok-held.ensures.0 in
+    let h = c.in_ok-held.ensures.ok.0 in
     let q = c.past-held.ensures in
     let u = simp (length-take, length-drop) at (step-used c.next-step.ensures.nexts) in
     (record { holds = record { order = omega (arith, u, q, h.order); inside = omega (arith, q, h.inside); room = h.room }; room = c.in_ok-at.ensures; possible = c.next-step.ensures.possible }, omega arith, omega arith)
