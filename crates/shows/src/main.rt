@@ -5,6 +5,9 @@ use std::env::{Env, FillError};
 use std::fs::File;
 use std::{fs, io};
 
+// The system's number of the error that a name is too long.
+const TOO_LONG: i32 = 36;
+
 // What std says of an error, without the system's number of it.
 fn without_number(said: &str) -> &str {
     match said.split_once(" (os error ") {
@@ -67,7 +70,7 @@ fn main(rt: HostRuntime) -> io::Result<()> {
             Err(FillError::TooLong) => complain(
                 &rt,
                 b"argument",
-                io::Error::from(io::ErrorKind::InvalidFilename),
+                io::Error::from_raw_os_error(TOO_LONG),
             )?,
             Err(FillError::NotPresent) => return Ok(()),
         }
