@@ -61,18 +61,26 @@ fn show(rt: &HostRuntime, name: &[u8]) -> io::Result<()> {
     rt.write_all(&output[..m])
 }
 
+// The file that an argument names; whether there is that argument.
+fn show_argument(rt: &HostRuntime, i: usize) -> io::Result<bool> {
+    let mut name = [0u8; 4096];
+    match rt.arg(i, &mut name) {
+        Ok(n) => show(rt, &name[..n])?,
+        Err(FillError::TooLong) => complain(
+            rt,
+            b"argument",
+            io::Error::from_raw_os_error(TOO_LONG),
+        )?,
+        Err(FillError::NotPresent) => return Ok(false),
+    }
+    Ok(true)
+}
+
 fn main(rt: HostRuntime) -> io::Result<()> {
     // The program's name comes first.
     for i in 1..usize::MAX {
-        let mut name = [0u8; 4096];
-        match rt.arg(i, &mut name) {
-            Ok(n) => show(&rt, &name[..n])?,
-            Err(FillError::TooLong) => complain(
-                &rt,
-                b"argument",
-                io::Error::from_raw_os_error(TOO_LONG),
-            )?,
-            Err(FillError::NotPresent) => return Ok(()),
+        if !show_argument(&rt, i)? {
+            return Ok(());
         }
     }
     Ok(())
