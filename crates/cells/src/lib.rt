@@ -16,7 +16,7 @@ ghost use Rattle.cells.specs.Cells.{checked_to, Right, Sized, EntriesSized};
 use machine::{Area, H, N, Place, Refusal, T};
 
 // What a check answers.
-#[derive(Drop)]
+#[derive(Clone, Copy)]
 pub enum Checked {
     Passed,
     Refused(Refusal),

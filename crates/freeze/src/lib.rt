@@ -17,7 +17,7 @@ pub use sizes::within;
 pub use writing::{file_length, freeze};
 
 // Why a file is not read or not written, with the offset where it need not be 0.
-#[derive(Drop)]
+#[derive(Clone, Copy)]
 pub enum FileRefusal {
     Sizes,
     Registers,
@@ -30,14 +30,14 @@ pub enum FileRefusal {
 }
 
 // One record: its kind, where its body starts, and where the next record does.
-#[derive(Drop)]
+#[derive(Clone, Copy)]
 pub enum Record {
     Whole { kind: u8, body: usize, next: usize },
     Refused(FileRefusal),
 }
 
 // A lent file, and the offset of the record that is read next.
-#[derive(Drop)]
+#[derive(Clone, Copy)]
 pub struct Reader<'a> {
     pub file: &'a [u8],
     pub at: usize,
@@ -53,14 +53,14 @@ pub struct AreaCounts {
 }
 
 // What the reader answers.
-#[derive(Drop)]
+#[derive(Clone, Copy)]
 pub enum Thawed {
     Areas(AreaCounts),
     Refused(FileRefusal),
 }
 
 // What the writer answers.
-#[derive(Drop)]
+#[derive(Clone, Copy)]
 pub enum Frozen {
     Bytes(usize),
     Refused(FileRefusal),

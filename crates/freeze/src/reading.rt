@@ -12,7 +12,7 @@ use crate::sizes::{legal, within};
 use crate::{AreaCounts, FileRefusal, Thawed};
 
 // Past the last record, or why one is refused.
-#[derive(Drop)]
+#[derive(Clone, Copy)]
 pub enum Checked {
     Good(usize),
     Refused(FileRefusal),

@@ -13,7 +13,7 @@ ghost use Rattle.holder.specs.Tracing.{Searched, Holds, Explained};
 use cells::Checked;
 use machine::{H, Place, Refusal};
 
-#[derive(Drop)]
+#[derive(Clone, Copy)]
 pub enum Why {
     // By the root at this place, through so many heap cells.
     Held { root: Place, length: usize },

@@ -14,21 +14,21 @@ use machine::{Collected, Place};
 pub use numbers::{fault_of, reason_of};
 
 // Whether a refusal names a place.
-#[derive(Drop)]
+#[derive(Clone, Copy)]
 pub enum Where {
     Nowhere,
     In(Place),
 }
 
 // Why an image is refused: the number, and the place where there is one.
-#[derive(Drop)]
+#[derive(Clone, Copy)]
 pub struct Reason {
     pub number: usize,
     pub place: Where,
 }
 
 // Why a file is not read: the number and the offset.
-#[derive(Drop)]
+#[derive(Clone, Copy)]
 pub struct Fault {
     pub number: usize,
     pub offset: usize,

@@ -6,7 +6,7 @@ ghost use Rattle.replay.specs.Replays.{Calls, Replays};
 use machine::{Collected, Stepped};
 
 // How a schedule ended: all its calls were granted, or the call at this index was refused.
-#[derive(Drop)]
+#[derive(Clone, Copy)]
 pub enum Replayed {
     Finished,
     Stopped(usize),

@@ -40,7 +40,7 @@ pub struct Month {
 
 // What a step answers: whether the report goes on, how many bytes of the window the file had, the output's next place, and the month
 // with this file.
-#[derive(Drop)]
+#[derive(Clone, Copy)]
 pub struct Step {
     pub more: bool,
     pub used: usize,

@@ -3,6 +3,7 @@
 
 use std::env::{Env, FillError};
 use std::fs::File;
+use std::io::Write;
 use std::{fs, io};
 
 // The system's number of the error that a name is too long.
@@ -18,11 +19,16 @@ fn without_number(said: &str) -> &str {
 
 // What failed, and why, as a line on standard error.
 fn complain(rt: &HostRuntime, what: &[u8], error: io::Error) -> io::Result<()> {
-    let said = error.to_string(rt.alloc())?;
+    // std's text of an error has at most 256 bytes, and the number with its words fewer than 30.
+    let mut text = [0u8; 300];
+    let mut rest = &mut text[..];
+    write!(rest, "{error}")?;
+    let n = 300usize.saturating_sub(rest.len());
+    let said = std::str::from_utf8(&text[..n]).unwrap_or("");
     let to = rt.stderr();
     to.write_all(what)?;
     to.write_all(b": ")?;
-    to.write_all(without_number(said.as_str()).as_bytes())?;
+    to.write_all(without_number(said).as_bytes())?;
     to.write_all(b"\n")
 }
 

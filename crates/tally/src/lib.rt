@@ -39,7 +39,7 @@ pub struct Tally {
 }
 
 // What a file gives: its figures, or why its image is refused, or why it is not read.
-#[derive(Drop)]
+#[derive(Clone, Copy)]
 pub enum Counted {
     Figures(Tally),
     Refused(Refusal),

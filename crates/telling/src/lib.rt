@@ -24,7 +24,7 @@ pub use number::read_index;
 use text::put_bytes;
 
 // What an argument asks for: a heap index, or nothing that can be read.
-#[derive(Drop)]
+#[derive(Clone, Copy)]
 pub enum Asked {
     Index(u32),
     Bad,

@@ -7,7 +7,7 @@ ghost use Rattle.telling.specs.Parts.{cells_from, Shown, Owned, Owns, Rooted};
 use machine::{CELL, LINK, LINK_FIELD, N};
 
 // A frame or a choice point, by the stack word at which it begins.
-#[derive(Drop)]
+#[derive(Clone, Copy)]
 pub enum Owner {
     Frame(usize),
     Point(usize),
