@@ -137,7 +137,8 @@ pub(super) fn all_good(
     notes: usize,
 ) -> bool
     requires { Bounded control.now n stack.now heap.now h work.now notes }
-    ensures { result ≡ true → (first_of (marked_checks control.now n stack.now heap.now h work.now notes) ≡ accepted) × (first_of (wrong_checks control.now n stack.now heap.now h work.now notes) ≡ accepted) }
+    ensures { result ≡ true → (first_of (marked_checks control.now n stack.now heap.now h work.now notes) ≡ accepted)
+        × (first_of (wrong_checks control.now n stack.now heap.now h work.now notes) ≡ accepted) }
 {
     if !heap_good(heap, h) {
         return false;

@@ -12,7 +12,8 @@ use machine::{Collected, Counts, H, T};
 // Marks what is reached and turns the marks into counts; answers how many cells are kept.
 fn reach(control: &[u32], stack: &[u32], heap: &[u32], work: &mut [u32]) -> u32
     requires { Markable control.now stack.now heap.now work.old }
-    ensures { (trail : List ℕ) → Reachable (record { control = control.now; stack = stack.now; heap = heap.now; trail = trail }) work.old → Reaches (record { control = control.now; stack = stack.now; heap = heap.now; trail = trail }) work.old work.new result }
+    ensures { (trail : List ℕ) → Reachable (record { control = control.now; stack = stack.now; heap = heap.now; trail = trail }) work.old
+        → Reaches (record { control = control.now; stack = stack.now; heap = heap.now; trail = trail }) work.old work.new result }
 {
     mark::mark(control, stack, heap, work);
     counts::count(work, control[H] as usize)
@@ -28,7 +29,8 @@ fn close_up(
     total: u32,
 ) -> Collected
     requires { Slidable (record { control = control.old; stack = stack.old; heap = heap.old; trail = trail.old }) work.now total }
-    ensures { Closes (record { control = control.old; stack = stack.old; heap = heap.old; trail = trail.old }) (record { control = control.new; stack = stack.new; heap = heap.new; trail = trail.new }) result }
+    ensures { Closes (record { control = control.old; stack = stack.old; heap = heap.old; trail = trail.old })
+        (record { control = control.new; stack = stack.new; heap = heap.new; trail = trail.new }) result }
 {
     let top = control[H] as usize;
     let t = control[T] as usize;
@@ -56,7 +58,8 @@ pub fn collect(
     trail: &mut [u32],
     work: &mut [u32],
 ) -> Collected
-    ensures { Collects (record { control = control.old; stack = stack.old; heap = heap.old; trail = trail.old }) work.old result (record { control = control.new; stack = stack.new; heap = heap.new; trail = trail.new }) work.new }
+    ensures { Collects (record { control = control.old; stack = stack.old; heap = heap.old; trail = trail.old })
+        work.old result (record { control = control.new; stack = stack.new; heap = heap.new; trail = trail.new }) work.new }
 {
     let checked = admit::admit(control, stack, heap, trail, work);
     if let Checked::Refused(refusal) = checked {

@@ -44,7 +44,8 @@ pub fn bik_collect(
     trail: &mut [u32],
     work: &mut [u32],
 ) -> BikCollected
-    ensures { CollectsForC (record { control = control.old; stack = stack.old; heap = heap.old; trail = trail.old }) work.old result (record { control = control.new; stack = stack.new; heap = heap.new; trail = trail.new }) work.new }
+    ensures { CollectsForC (record { control = control.old; stack = stack.old; heap = heap.old; trail = trail.old })
+        work.old result (record { control = control.new; stack = stack.new; heap = heap.new; trail = trail.new }) work.new }
 {
     collected(collect::collect(control, stack, heap, trail, work))
 }
@@ -80,7 +81,8 @@ pub fn bik_step_back(
     trail: &mut [u32],
     work: &mut [u32],
 ) -> BikStepped
-    ensures { StepsBackForC (record { control = control.old; stack = stack.old; heap = heap.old; trail = trail.old }) work.old result (record { control = control.new; stack = stack.new; heap = heap.new; trail = trail.new }) work.new }
+    ensures { StepsBackForC (record { control = control.old; stack = stack.old; heap = heap.old; trail = trail.old })
+        work.old result (record { control = control.new; stack = stack.new; heap = heap.new; trail = trail.new }) work.new }
 {
     stepped(retreat::step_back(control, stack, heap, trail, work))
 }

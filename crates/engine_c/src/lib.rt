@@ -19,7 +19,8 @@ pub extern "C" fn bik_collect(
     trail: &mut [u32],
     work: &mut [u32],
 ) -> BikCollected
-    ensures { CollectsForC (record { control = control.old; stack = stack.old; heap = heap.old; trail = trail.old }) work.old result (record { control = control.new; stack = stack.new; heap = heap.new; trail = trail.new }) work.new }
+    ensures { CollectsForC (record { control = control.old; stack = stack.old; heap = heap.old; trail = trail.old })
+        work.old result (record { control = control.new; stack = stack.new; heap = heap.new; trail = trail.new }) work.new }
 {
     engine::bik_collect(control, stack, heap, trail, work)
 }
@@ -33,7 +34,8 @@ pub extern "C" fn bik_step_back(
     trail: &mut [u32],
     work: &mut [u32],
 ) -> BikStepped
-    ensures { StepsBackForC (record { control = control.old; stack = stack.old; heap = heap.old; trail = trail.old }) work.old result (record { control = control.new; stack = stack.new; heap = heap.new; trail = trail.new }) work.new }
+    ensures { StepsBackForC (record { control = control.old; stack = stack.old; heap = heap.old; trail = trail.old })
+        work.old result (record { control = control.new; stack = stack.new; heap = heap.new; trail = trail.new }) work.new }
 {
     engine::bik_step_back(control, stack, heap, trail, work)
 }

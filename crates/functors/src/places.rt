@@ -64,8 +64,10 @@ fn covering_cell(
     total: u32,
     i: usize,
 ) -> bool
-    requires { (h ≤ length heap.now) × Low h work.now × (notes + length stack.now ≤ length work.now) × (i < length stack.now) × (notes_cell work.now notes i ≡ true → Within h heap.now (get_or stack.now i 0)) }
-    ensures { (firsts : ℕ → Bool) → Tallied firsts heap.now h work.now total → (notes_cell work.now notes i ≡ true → Owned firsts (get_or stack.now i 0)) → result ≡ covers_stack firsts heap.now stack.now work.now notes i }
+    requires { (h ≤ length heap.now) × Low h work.now × (notes + length stack.now ≤ length work.now) × (i < length stack.now)
+        × (notes_cell work.now notes i ≡ true → Within h heap.now (get_or stack.now i 0)) }
+    ensures { (firsts : ℕ → Bool) → Tallied firsts heap.now h work.now total → (notes_cell work.now notes i ≡ true → Owned firsts (get_or stack.now i 0))
+        → result ≡ covers_stack firsts heap.now stack.now work.now notes i }
 {
     if work[notes + i] != CELL {
         return false;
@@ -82,8 +84,11 @@ fn first_stack(
     notes: usize,
     total: u32,
 ) -> usize
-    requires { (h ≤ length heap.now) × Low h work.now × (notes + length stack.now ≤ length work.now) × ((i : ℕ) → i < length stack.now → notes_cell work.now notes i ≡ true → Within h heap.now (get_or stack.now i 0)) }
-    ensures { (firsts : ℕ → Bool) → Tallied firsts heap.now h work.now total → ((i : ℕ) → i < length stack.now → notes_cell work.now notes i ≡ true → Owned firsts (get_or stack.now i 0)) → result ≡ first (covers_stack firsts heap.now stack.now work.now notes) 0 (length stack.now) }
+    requires { (h ≤ length heap.now) × Low h work.now × (notes + length stack.now ≤ length work.now)
+        × ((i : ℕ) → i < length stack.now → notes_cell work.now notes i ≡ true → Within h heap.now (get_or stack.now i 0)) }
+    ensures { (firsts : ℕ → Bool) → Tallied firsts heap.now h work.now total
+        → ((i : ℕ) → i < length stack.now → notes_cell work.now notes i ≡ true → Owned firsts (get_or stack.now i 0))
+        → result ≡ first (covers_stack firsts heap.now stack.now work.now notes) 0 (length stack.now) }
 {
     let mut i = 0;
     while i < stack.len() {
@@ -105,7 +110,8 @@ fn first_control(
     total: u32,
 ) -> usize
     requires { (h ≤ length heap.now) × Low h work.now × (fixed + n ≤ length control.now) × ((i : ℕ) → i < n → Within h heap.now (argument control.now 0 i)) }
-    ensures { (firsts : ℕ → Bool) → Tallied firsts heap.now h work.now total → ((i : ℕ) → i < n → Owned firsts (argument control.now 0 i)) → result ≡ first (covers_control firsts heap.now control.now) 0 n }
+    ensures { (firsts : ℕ → Bool) → Tallied firsts heap.now h work.now total → ((i : ℕ) → i < n → Owned firsts (argument control.now 0 i))
+        → result ≡ first (covers_control firsts heap.now control.now) 0 n }
 {
     let mut i = 0;
     while i < n {
@@ -152,7 +158,8 @@ pub(super) fn find(
     total: u32,
 ) -> Checked
     requires { Contained control.now n stack.now heap.now h work.now notes × Low h work.now × Entered trail.now (field control.now 0 T) h }
-    ensures { (firsts : ℕ → Bool) → Tallied firsts heap.now h work.now total → Owns firsts control.now n stack.now heap.now h work.now notes → checked_to result ≡ first_of (covered_checks firsts control.now n stack.now heap.now h trail.now work.now notes) }
+    ensures { (firsts : ℕ → Bool) → Tallied firsts heap.now h work.now total → Owns firsts control.now n stack.now heap.now h work.now notes
+        → checked_to result ≡ first_of (covered_checks firsts control.now n stack.now heap.now h trail.now work.now notes) }
 {
     let x = lowest_heap(heap, h, work, total);
     if x < h {

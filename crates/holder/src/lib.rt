@@ -58,7 +58,8 @@ fn explain(
     room: &mut [u32],
 ) -> Why
     requires { Markable control.now stack.now heap.now work.old }
-    ensures { (trail : List ℕ) → Reachable (record { control = control.now; stack = stack.now; heap = heap.now; trail = trail }) work.old → Explained (record { control = control.now; stack = stack.now; heap = heap.now; trail = trail }) x room.old work.old work.new result room.new }
+    ensures { (trail : List ℕ) → Reachable (record { control = control.now; stack = stack.now; heap = heap.now; trail = trail }) work.old
+        → Explained (record { control = control.now; stack = stack.now; heap = heap.now; trail = trail }) x room.old work.old work.new result room.new }
 {
     if control[H] as usize <= x {
         return Why::NoCell;

@@ -19,7 +19,13 @@ use text::{put_byte, put_bytes, put_line, put_spaced};
 
 // Cells kept and dropped, entries kept and dropped.
 pub fn put_kept(output: &mut [u8], at: usize, cells: Counts, entries: Counts) -> usize
-    ensures { PutsShort line_most output.old at (kept_line (record { verdict = accepted; cells_kept = cells.kept; cells_dropped = cells.dropped; entries_kept = entries.kept; entries_dropped = entries.dropped })) result output.new }
+    ensures { PutsShort line_most output.old at (kept_line (record {
+      verdict = accepted;
+      cells_kept = cells.kept;
+      cells_dropped = cells.dropped;
+      entries_kept = entries.kept;
+      entries_dropped = entries.dropped;
+    })) result output.new }
 {
     let kept = put_bytes(output, at, b"kept");
     let dropped = put_spaced(output, kept, cells.kept);
@@ -125,7 +131,14 @@ pub fn put_collected(
     trail: &[u32],
 ) -> usize
     requires { fixed ≤ length control.now }
-    ensures { PutsShort (text_most (image_of control.now stack.now heap.now trail.now)) output.old 0 (collected_text (record { verdict = accepted; cells_kept = cells.kept; cells_dropped = cells.dropped; entries_kept = entries.kept; entries_dropped = entries.dropped }) (image_of control.now stack.now heap.now trail.now)) result output.new }
+    ensures { PutsShort (text_most (image_of control.now stack.now heap.now trail.now))
+        output.old 0 (collected_text (record {
+          verdict = accepted;
+          cells_kept = cells.kept;
+          cells_dropped = cells.dropped;
+          entries_kept = entries.kept;
+          entries_dropped = entries.dropped;
+        }) (image_of control.now stack.now heap.now trail.now)) result output.new }
 {
     let areas_at = put_kept(output, 0, cells, entries);
     let end_at = put_areas(output, areas_at, control, stack, heap, trail);

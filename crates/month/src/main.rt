@@ -51,8 +51,7 @@ fn run<R: Read>(
         }
         held = held.past(step.used);
         at = make_room(rt, output, end)?;
-        let next = step.month;
-        month = next;
+        month = step.month;
     }
 }
 

@@ -21,7 +21,8 @@ fn call(
     trail: &mut [u32],
     work: &mut [u32],
 ) -> bool
-    ensures { Calls byte (record { control = control.old; stack = stack.old; heap = heap.old; trail = trail.old }) work.old result (record { control = control.new; stack = stack.new; heap = heap.new; trail = trail.new }) work.new }
+    ensures { Calls byte (record { control = control.old; stack = stack.old; heap = heap.old; trail = trail.old })
+        work.old result (record { control = control.new; stack = stack.new; heap = heap.new; trail = trail.new }) work.new }
 {
     if byte == 0 {
         let answer = collect::collect(control, stack, heap, trail, work);
@@ -49,7 +50,8 @@ pub fn replay(
     trail: &mut [u32],
     work: &mut [u32],
 ) -> Replayed
-    ensures { Replays 0 (record { control = control.old; stack = stack.old; heap = heap.old; trail = trail.old }) work.old calls.now result (record { control = control.new; stack = stack.new; heap = heap.new; trail = trail.new }) work.new }
+    ensures { Replays 0 (record { control = control.old; stack = stack.old; heap = heap.old; trail = trail.old })
+        work.old calls.now result (record { control = control.new; stack = stack.new; heap = heap.new; trail = trail.new }) work.new }
 {
     let mut i = 0;
     while i < calls.len() {

@@ -52,7 +52,8 @@ fn copy(control: &mut [u32], stack: &[u32], b: usize, count: usize)
 // The step back from an image that passes 1 to 7 and 17.
 fn retreat(control: &mut [u32], stack: &mut [u32], heap: &mut [u32], trail: &[u32]) -> Stepped
     requires { Accepted (record { control = control.old; stack = stack.old; heap = heap.old; trail = trail.now }) }
-    ensures { Retreats (record { control = control.old; stack = stack.old; heap = heap.old; trail = trail.now }) result (record { control = control.new; stack = stack.new; heap = heap.new; trail = trail.now }) }
+    ensures { Retreats (record { control = control.old; stack = stack.old; heap = heap.old; trail = trail.now })
+        result (record { control = control.new; stack = stack.new; heap = heap.new; trail = trail.now }) }
 {
     let newest = control[B];
     if newest == NONE {
@@ -78,7 +79,8 @@ pub fn step_back(
     trail: &[u32],
     work: &mut [u32],
 ) -> Stepped
-    ensures { StepsBack (record { control = control.old; stack = stack.old; heap = heap.old; trail = trail.now }) work.old result (record { control = control.new; stack = stack.new; heap = heap.new; trail = trail.now }) work.new }
+    ensures { StepsBack (record { control = control.old; stack = stack.old; heap = heap.old; trail = trail.now })
+        work.old result (record { control = control.new; stack = stack.new; heap = heap.new; trail = trail.now }) work.new }
 {
     let words = heap.len() + stack.len();
     let checked = admit::admit(control, stack, heap, trail, work);

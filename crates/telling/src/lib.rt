@@ -47,7 +47,8 @@ fn put_held(
     room: &[u32],
 ) -> usize
     requires { Answered control.now stack.now heap.now work.old (Held root length) room.now }
-    ensures puts_short { (a : Answered control.now stack.now heap.now work.old (Held root length) room.now) → PutsShort (text_most room.now) output.old 0 (said_text a.image (said_of (Held root length)) room.now) result output.new }
+    ensures puts_short { (a : Answered control.now stack.now heap.now work.old (Held root length) room.now)
+        → PutsShort (text_most room.now) output.old 0 (said_text a.image (said_of (Held root length)) room.now) result output.new }
     ensures work_unchanged { work.new ≡ work.old }
 {
     let chain_at = put_root(output, 0, root, control, stack, work, heap.len());
@@ -65,7 +66,8 @@ fn put_why(
     room: &[u32],
 ) -> usize
     requires { Answered control.now stack.now heap.now work.old why room.now }
-    ensures puts_short { (a : Answered control.now stack.now heap.now work.old why room.now) → PutsShort (text_most room.now) output.old 0 (said_text a.image (said_of why) room.now) result output.new }
+    ensures puts_short { (a : Answered control.now stack.now heap.now work.old why room.now)
+        → PutsShort (text_most room.now) output.old 0 (said_text a.image (said_of why) room.now) result output.new }
     ensures work_unchanged { work.new ≡ work.old }
 {
     match why {
@@ -91,7 +93,8 @@ pub fn tell(
     room: &mut [u32],
     output: &mut [u8],
 ) -> usize
-    ensures tells { Tells file.now (image_of control.old stack.old heap.old trail.old) work.old index room.old output.old result (image_of control.new stack.new heap.new trail.new) work.new room.new output.new }
+    ensures tells { Tells file.now (image_of control.old stack.old heap.old trail.old)
+        work.old index room.old output.old result (image_of control.new stack.new heap.new trail.new) work.new room.new output.new }
     ensures counts_bytes { CountsBytes result output.new }
 {
     let counts = match freeze::thaw(file, control, stack, heap, trail) {

@@ -9,13 +9,10 @@ use lib.ListN.{length}
 use Rattle.machine.specs.Layout.{Image}
 use Rattle.machine.specs.Refusals.{enough}
 use Rattle.machine.proofs.Checks.{enough-iff}
+use Rattle.machine.proofs.Images.{image_of}
 use Rattle.admit.proofs.Admitting.{lengths-enough, sizes-stop, blanked, admits-passed, admits-refused}
 use Rattle.admit.proofs.admit.Goals as goal
 use Rattle.admit.proofs.admit.Goals.{After-sizes_enough, Else-not-sizes_enough}
-
--- the image whose four areas are these
-abbrev image_of : List ℕ → List ℕ → List ℕ → List ℕ → Image
-image_of control stack heap trail = record { control = control; stack = stack; heap = heap; trail = trail }
 
 -- what `sizes_enough` answered is refusal 1
 tested : (c : After-sizes_enough) → c.sizes_enough.result ≡ enough (length c.args.work.now) (image_of c.args.control.now c.args.stack.now c.args.heap.now c.args.trail.now)

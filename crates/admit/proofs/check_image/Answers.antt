@@ -9,14 +9,11 @@ use lib.ListN.{length}
 use Rattle.machine.specs.Layout.{Image}
 use Rattle.machine.specs.Layout.{none}
 use Rattle.machine.specs.Refusals.{fits}
+use Rattle.machine.proofs.Images.{image_of}
 use Rattle.chains.specs.Notes.{Walks}
 use Rattle.admit.proofs.Admitting.{registers-stop, chain-stop, roles-stop, words-noted, noted-checked}
 use Rattle.admit.proofs.check_image.Goals as goal
 use Rattle.admit.proofs.check_image.Goals.{After-registers_fit, Else-fault, Else-not-registers_fit}
-
--- the image whose four areas are these
-abbrev image_of : List ℕ → List ℕ → List ℕ → List ℕ → Image
-image_of control stack heap trail = record { control = control; stack = stack; heap = heap; trail = trail }
 
 -- what `registers_fit` answered is refusal 2
 tested : (c : After-registers_fit) → c.registers_fit.result ≡ fits (image_of c.args.control.now c.args.stack.now c.args.heap.now c.args.trail.now)

@@ -1,6 +1,7 @@
 -- `collect::collect` meets its contract: what is refused changes nothing but the work words, and what is admitted goes through the phases.
 -- Assumes nothing.
 use Rattle.machine.specs.Layout.{Image}
+use Rattle.machine.proofs.Images.{image_of}
 use Prim.Native.Nat.{ℕ}
 use mathlib.Core.List.{List}
 use native.Mathlib.Omega.{arith}
@@ -9,10 +10,6 @@ use Rattle.collect.proofs.Marking.{markable}
 use Rattle.collect.proofs.Collecting.{collects-refused, collects-passed, reachable}
 use Rattle.collect.proofs.collect.Goals as goal
 use Rattle.collect.proofs.collect.Goals.{After-reach-total}
-
--- the image whose four areas are these
-abbrev image_of : List ℕ → List ℕ → List ℕ → List ℕ → Image
-image_of control stack heap trail = record { control = control; stack = stack; heap = heap; trail = trail }
 
 -- and its reached cells are counted
 counted : (c : After-reach-total) → Reaches (image_of c.args.control.now c.args.stack.now c.args.heap.now c.args.trail.now) c.admit-checked.new.work c.reach-total.new.work c.reach-total.result

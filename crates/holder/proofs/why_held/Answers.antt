@@ -1,6 +1,7 @@
 -- `holder::why_held` meets its contract: what is refused is said as it is refused, and what is admitted is explained and the work words cleared.
 -- Assumes nothing.
 use Rattle.machine.specs.Layout.{Image}
+use Rattle.machine.proofs.Images.{image_of}
 use Prim.Native.Nat.{ℕ}
 use mathlib.Core.List.{List}
 use native.Mathlib.Omega.{arith}
@@ -10,10 +11,6 @@ use Rattle.holder.specs.Tracing.{Explained}
 use Rattle.holder.proofs.Promising.{explains-refused, explains-passed}
 use Rattle.holder.proofs.why_held.Goals as goal
 use Rattle.holder.proofs.why_held.Goals.{After-explain-answer}
-
--- the image whose four areas are these
-abbrev image_of : List ℕ → List ℕ → List ℕ → List ℕ → Image
-image_of control stack heap trail = record { control = control; stack = stack; heap = heap; trail = trail }
 
 -- the cell explained
 explained : (c : After-explain-answer) → Explained (image_of c.args.control.now c.args.stack.now c.args.heap.now c.args.trail.now) c.args.cell c.args.room.now c.admit-checked.new.work c.explain-answer.new.work c.explain-answer.result c.explain-answer.new.room

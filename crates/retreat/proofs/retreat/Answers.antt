@@ -8,15 +8,12 @@ use Rattle.machine.specs.Layout.{Image, field}
 use Rattle.machine.specs.Stepped.{newest, undone}
 use Rattle.machine.proofs.Chains.{Bounds}
 use Rattle.machine.proofs.Accepted.{Granted}
+use Rattle.machine.proofs.Images.{image_of}
 use Rattle.retreat.proofs.Undoing.{undid-stack-length}
 use Rattle.retreat.proofs.Stepping.{stepped-is, newest-bounds, newest-undoable}
 use Rattle.retreat.proofs.Answering.{retreats-none, retreats-short, retreats-done}
 use Rattle.retreat.proofs.retreat.Goals as goal
 use Rattle.retreat.proofs.retreat.Goals.{Else-newest}
-
--- the image whose four areas are these
-abbrev image_of : List ℕ → List ℕ → List ℕ → List ℕ → Image
-image_of control stack heap trail = record { control = control; stack = stack; heap = heap; trail = trail }
 
 bounds : (c : Else-newest) → Bounds (image_of c.args.control.now c.args.stack.now c.args.heap.now c.args.trail.now) (newest (image_of c.args.control.now c.args.stack.now c.args.heap.now c.args.trail.now))
 unfolding field

@@ -8,14 +8,11 @@ use native.Mathlib.Omega.{arith}
 use lib.ListN.{length}
 use Rattle.machine.specs.Refusals.{accepted, verdict}
 use Rattle.machine.proofs.Verdicts.{verdict-accepted}
+use Rattle.machine.proofs.Images.{image_of}
 use Rattle.cells.specs.Cells.{checked_to}
 use Rattle.retreat.proofs.Promising.{refusal-given, answer-given}
 use Rattle.retreat.proofs.step_back.Goals as goal
 use Rattle.retreat.proofs.step_back.Goals.{In-Passed}
-
--- the image whose four areas are these
-abbrev image_of : List ℕ → List ℕ → List ℕ → List ℕ → Image
-image_of control stack heap trail = record { control = control; stack = stack; heap = heap; trail = trail }
 
 -- it passes 1 to 7 and 17
 passes : (c : In-Passed) → verdict (length c.args.work.now) (image_of c.args.control.now c.args.stack.now c.args.heap.now c.args.trail.now) ≡ accepted
