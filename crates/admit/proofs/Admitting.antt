@@ -1,5 +1,6 @@
 -- The parts of `admit` together give the table's verdict: each check that passes is skipped, and the first that does not is the answer.
 -- Assumes nothing.
+use Rattle.std.specs.Prelude.{Result, Ok, Err, Option, Some, None}
 use Prim.Native.Nat.{ℕ, ◌+◌, ◌≤◌, ◌<◌}
 use mathlib.Core.Path.{◌≡◌, refl, sym, ap, subst, ◌∙◌}
 use mathlib.Core.Logic.{◌≢◌, ⊎_elim}
@@ -23,16 +24,16 @@ use Rattle.machine.proofs.Chains.{role-low}
 use Rattle.machine.proofs.Walks.{whole-linked}
 use Rattle.machine.proofs.Roles.{has-is, is-has, field-iff}
 use Rattle.machine.proofs.Firsts.{first-same, first-before, first-skips, passes-gate, refuses-gate, refused-not, scan-passes, scan-first, first-given}
+use Rattle.machine.specs.Lowest.{Lowest}
+use Rattle.machine.proofs.Lowest.{found, scan-lowest}
 use Rattle.machine.proofs.Checks.{enough-iff, fits_iff}
 use Rattle.machine.proofs.Injective.{refusal-refuses}
 use Rattle.machine.proofs.Works.{cleared_to, uses-all, lent-cleared}
 use Rattle.machine.proofs.Parts.{front_at}
 use Rattle.chains.specs.Notes.{several_at, Walks, Noted}
 use Rattle.chains.proofs.Conflicts.{noted-of-walk, conflict-noted}
-use Rattle.cells.specs.declared.Checked.{Checked}
-use Rattle.cells.specs.declared.Checked.TheVariants.{Passed, Refused}
 use Rattle.cells.specs.Cells.{checked_to, notes_cell, notes_field, Right}
-use Rattle.admit.specs.Admits.{Admits, Blanked, WordsNoted, ChecksNoted, ChecksImage, lengths_pass}
+use Rattle.admit.specs.Admits.{Admits, Blanked, WordsNoted, ChecksNoted, ChecksImage}
 
 -- ---- the notes are right
 
@@ -74,11 +75,11 @@ on_stack i = record { area = Stack; index = i }
 
 module _ (X : Image) (work : List ℕ) where
   -- what a failed check leaves
-  stopped : (r : Refusal) {work' : List ℕ} → verdict_of r ≡ first_of (image_checks X) → drop (work_words X) work' ≡ drop (work_words X) work → length work' ≡ length work → ChecksImage X work (Refused r) work'
+  stopped : (r : Refusal) {work' : List ℕ} → verdict_of r ≡ first_of (image_checks X) → drop (work_words X) work' ≡ drop (work_words X) work → length work' ≡ length work → ChecksImage X work (Err r) work'
   unfolding checked_to
   stopped r e d l = record { gives = e; passed = λ q. absurd (refusal-refuses r (e ∙ q)); rest = d; same = l }
 
-  pub registers-stop : fits X ≡ false → ChecksImage X work (Refused Registers) work
+  pub registers-stop : fits X ≡ false → ChecksImage X work (Err Registers) work
   unfolding verdict_of
   registers-stop f = stopped Registers (sym (first-given _ _ (refuses-gate _ _ f))) refl refl
 
@@ -86,32 +87,33 @@ module _ (X : Image) (work : List ℕ) where
     registers-pass : first_of (image_checks X) ≡ first_of (chain_check (fault_of X (walk X)) ∷ scan (conflict X) (length X.stack) (λ i. refused 4 (in_area Stack i)) ∷ cell_checks X (entry_checks X (first_checks X)))
     registers-pass = first-skips _ _ (passes-gate _ _ f)
 
-    pub chain-stop : {i : ℕ} → Walks X work (length X.heap) i work' → i ≢ none → ChecksImage X work (Refused (Chain (on_stack i))) work'
+    pub chain-stop : {i : ℕ} → Walks X work (length X.heap) (Err i) work' → ChecksImage X work (Err (Chain (on_stack i))) work'
     unfolding verdict_of
-    chain-stop {i} w n =
-        stopped (Chain (on_stack i)) (sym (registers-pass ∙ first-given _ _ (ap chain_check (w.stopped n)))) w.after w.same
+    chain-stop {i} w =
+        stopped (Chain (on_stack i)) (sym (registers-pass ∙ first-given _ _ (ap chain_check w.stopped))) w.after w.same
 
-    module _ (w : Walks X work (length X.heap) none work') where
+    module _ (w : Walks X work (length X.heap) (Ok tt) work') where
       chain-pass : first_of (image_checks X) ≡ first_of (scan (conflict X) (length X.stack) (λ i. refused 4 (in_area Stack i)) ∷ cell_checks X (entry_checks X (first_checks X)))
-      chain-pass = registers-pass ∙ first-skips _ _ (ap chain_check (w.noted refl).0)
+      chain-pass = registers-pass ∙ first-skips _ _ (ap chain_check w.noted.0)
 
       -- the notes of several roles are those of the words in conflict
       conflicts : (i : ℕ) → i < length X.stack → several_at work' (length X.heap) i ≡ conflict X i
-      conflicts = conflict-noted X work' (length X.heap) (w.noted refl)
+      conflicts = conflict-noted X work' (length X.heap) w.noted
 
-      module _ {i : ℕ} (q : i ≡ first (several_at work' (length X.heap)) 0 (length X.stack)) where
-        pub roles-stop : i < length X.stack → ChecksImage X work (Refused (Roles (on_stack i))) work'
-        unfolding verdict_of
-        roles-stop l =
-            let e = sym (q ∙ first-same _ (conflict X) 0 (length X.stack) (λ j a b. conflicts j (omega arith))) in
-            stopped (Roles (on_stack i)) (sym (chain-pass ∙ first-given _ _ (scan-first (conflict X) (length X.stack) (λ j. refused 4 (in_area Stack j)) i e l))) w.after w.same
+      same-lowest : (r : Option ℕ) → Lowest (several_at work' (length X.heap)) (length X.stack) r → Lowest (conflict X) (length X.stack) r
+      same-lowest None f = λ i l. sym (conflicts i l) ∙ f i l
+      same-lowest (Some i) f = (f.0, sym (conflicts i f.0) ∙ f.1, λ j l. sym (conflicts j (omega (arith, f.0))) ∙ f.2 j l)
 
-      module _ {i : ℕ} (q : i ≡ first (several_at work' (length X.heap)) 0 (length X.stack)) (high : length X.stack ≤ i) where
-        few : (j : ℕ) → j < length X.stack → several_at work' (length X.heap) j ≡ false
-        few j l = first-before (several_at work' (length X.heap)) 0 (length X.stack) j (omega arith) (omega (arith, q))
+      scanned : (r : Option ℕ) → Lowest (several_at work' (length X.heap)) (length X.stack) r → scan (conflict X) (length X.stack) (λ j. refused 4 (in_area Stack j)) ≡ found (λ j. refused 4 (in_area Stack j)) r
+      scanned r f = scan-lowest (conflict X) (length X.stack) (λ j. refused 4 (in_area Stack j)) r (same-lowest r f)
 
+      pub roles-stop : (i : ℕ) → Lowest (several_at work' (length X.heap)) (length X.stack) (Some i) → ChecksImage X work (Err (Roles (on_stack i))) work'
+      unfolding verdict_of
+      roles-stop i f = stopped (Roles (on_stack i)) (sym (chain-pass ∙ first-given _ _ (scanned (Some i) f))) w.after w.same
+
+      module _ (few : Lowest (several_at work' (length X.heap)) (length X.stack) None) where
         pub noted : Noted X work' (length X.heap)
-        noted = noted-of-walk X work' (length X.heap) (w.noted refl) few
+        noted = noted-of-walk X work' (length X.heap) w.noted few
 
         front : Blanked X work → (x : ℕ) → x < length X.heap → get_or work' x 0 ≡ 0
         front b x l = front_at (length X.heap) work' work w.before x l ∙ b.blank x (omega arith)
@@ -122,13 +124,13 @@ module _ (X : Image) (work : List ℕ) where
           fits = (fits_iff X).0 f;
           room = omega (arith, b.room, w.same);
           blank = front b;
-          right = notes-right (w.noted refl).0 noted (omega (arith, b.room, w.same));
+          right = notes-right w.noted.0 noted (omega (arith, b.room, w.same));
         }
 
-        pub noted-checked : {r : Checked} {work'' : List ℕ} → Blanked X work → ChecksNoted X work' r work'' → ChecksImage X work r work''
+        pub noted-checked : {r : Result (Unit {0}) Refusal} {work'' : List ℕ} → Blanked X work → ChecksNoted X work' r work'' → ChecksImage X work r work''
         noted-checked {r} b c =
             subst (ChecksImage X work r) (sym c.stays) (record {
-              gives = c.gives ∙ sym (chain-pass ∙ first-skips _ _ (scan-passes (conflict X) (length X.stack) (λ j. refused 4 (in_area Stack j)) (λ j l. sym (conflicts j l) ∙ few j l)));
+              gives = c.gives ∙ sym (chain-pass ∙ first-skips _ _ (scanned None few));
               passed = λ q. record { blank = front b; noted = noted; rest = w.after; same = w.same };
               rest = w.after;
               same = w.same;
@@ -136,12 +138,8 @@ module _ (X : Image) (work : List ℕ) where
 
 -- ---- the whole
 
-pub lengths-enough : (X : Image) (work : List ℕ) → lengths_pass (length X.control) (length X.stack) (length X.heap) (length X.trail) (length work) ≡ enough (length work) X
-unfolding lengths_pass enough Rattle.machine.specs.Refusals.legal_sizes
-lengths-enough X work = refl
-
 module _ (X : Image) (work : List ℕ) where
-  pub sizes-stop : enough (length work) X ≡ false → Admits X work (Refused Sizes) work
+  pub sizes-stop : enough (length work) X ≡ false → Admits X work (Err Sizes) work
   unfolding checked_to verdict_of verdict work_after
   sizes-stop e =
       let v : verdict (length work) X ≡ refused 1 nowhere = first-given _ _ (refuses-gate _ _ e) in
@@ -175,7 +173,7 @@ module _ (X : Image) (work : List ℕ) where
       behind : drop (work_words X) work' ≡ drop (work_words X) work
       behind = ap (drop (work_words X)) q ∙ cleared-rest
 
-      pub admits-passed : {work'' : List ℕ} → ChecksImage X work' Passed work'' → Admits X work Passed work''
+      pub admits-passed : {work'' : List ℕ} → ChecksImage X work' (Ok tt) work'' → Admits X work (Ok tt) work''
       unfolding checked_to
       admits-passed c =
           let v = c.gives ∙ same-verdict in
@@ -186,7 +184,7 @@ module _ (X : Image) (work : List ℕ) where
             refused = λ z. absurd (z (sym v));
           }
 
-      pub admits-refused : {r : Refusal} (work'' last : List ℕ) → ChecksImage X work' (Refused r) work'' → last ≡ cleared_to X work'' → Admits X work (Refused r) last
+      pub admits-refused : {r : Refusal} (work'' last : List ℕ) → ChecksImage X work' (Err r) work'' → last ≡ cleared_to X work'' → Admits X work (Err r) last
       unfolding checked_to
       admits-refused {r} work'' last c z =
           let v = c.gives ∙ same-verdict in

@@ -1,5 +1,6 @@
 -- The checks of words together give the table's verdict on 5 to 7 and 17: each that passes is skipped, and the first that does not is the
 -- answer. Assumes nothing.
+use Rattle.std.specs.Prelude.{Result, Ok, Err}
 use Prim.Native.Nat.{ℕ}
 use mathlib.Core.Path.{◌≡◌, refl, sym, ◌∙◌}
 use mathlib.Core.List.{List, []}
@@ -11,8 +12,6 @@ use Rattle.machine.specs.Refusals.{Verdict, accepted, or_else, first_of, cell_ch
 use Rattle.machine.specs.Answers.{verdict_of}
 use Rattle.machine.proofs.Firsts.{else-passes, else-refuses, else-assoc}
 use Rattle.machine.proofs.Injective.{refusal-refuses}
-use Rattle.cells.specs.declared.Checked.{Checked}
-use Rattle.cells.specs.declared.Checked.TheVariants.{Passed, Refused}
 use Rattle.cells.specs.Cells.{checked_to}
 use Rattle.functors.specs.Functors.{Checkable, ChecksFirst}
 use Rattle.admit.specs.Admits.{WordsNoted, ChecksWords, ChecksNoted}
@@ -37,25 +36,25 @@ passed_then e f = f ∙ sym (else-passes _ _ (sym e))
 -- ---- words
 
 module _ {X : Image} where
-  pub words-refused : {r : Refusal} → checked_to (Refused r) ≡ first_of (cell_checks X []) → ChecksWords X (Refused r)
+  pub words-refused : {r : Refusal} → checked_to (Err r) ≡ first_of (cell_checks X []) → ChecksWords X (Err r)
   unfolding checked_to
   words-refused {r} e = record { gives = refused-first r e _ ∙ sym (cells-then X (entry_checks X [])) }
 
-  pub words-passed : {r : Checked} → checked_to Passed ≡ first_of (cell_checks X []) → checked_to r ≡ first_of (entry_checks X []) → ChecksWords X r
+  pub words-passed : {r : Result (Unit {0}) Refusal} → checked_to (Ok tt) ≡ first_of (cell_checks X []) → checked_to r ≡ first_of (entry_checks X []) → ChecksWords X r
   unfolding checked_to
   words-passed e f = record { gives = passed_then e f ∙ sym (cells-then X (entry_checks X [])) }
 
   -- and first cells
   module _ {work : List ℕ} where
-    pub noted-refused : {r : Refusal} → ChecksWords X (Refused r) → ChecksNoted X work (Refused r) work
+    pub noted-refused : {r : Refusal} → ChecksWords X (Err r) → ChecksNoted X work (Err r) work
     unfolding checked_to
     noted-refused {r} c = record { gives = refused-first r c.gives _ ∙ sym (entries-then X (first_checks X)); stays = refl }
 
-    pub noted-passed : {r : Checked} {work' : List ℕ} → ChecksWords X Passed → ChecksFirst X work r work' → ChecksNoted X work r work'
+    pub noted-passed : {r : Result (Unit {0}) Refusal} {work' : List ℕ} → ChecksWords X (Ok tt) → ChecksFirst X work r work' → ChecksNoted X work r work'
     unfolding checked_to
     noted-passed c f = record { gives = passed_then c.gives f.gives ∙ sym (entries-then X (first_checks X)); stays = f.stays }
 
-    pub noted-checkable : WordsNoted X work → ChecksWords X Passed → Checkable X work (length X.heap)
+    pub noted-checkable : WordsNoted X work → ChecksWords X (Ok tt) → Checkable X work (length X.heap)
     unfolding checked_to
     noted-checkable n c = record {
       sizes = n.sizes;

@@ -1,4 +1,5 @@
 pub mod Refers
-pub mod Seeking
+pub mod Clean
 pub mod Areas
 pub mod Bridge
+pub mod Ranges

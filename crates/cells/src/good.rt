@@ -1,150 +1,108 @@
 // Every cell is good, for 5 and for 6: two passes over the heap, one over the stack and one over the saved arguments.
-ghost use Rattle.std.specs.Prelude.{◌≡◌, ◌↔◌, true, false, ◌+◌, ◌<◌, ◌≤◌, length};
-ghost use Rattle.machine.specs.Layout.{fixed, heap_most, stack_most};
-ghost use Rattle.machine.specs.Refusals.{accepted, first_of};
-ghost use Rattle.cells.specs.Cells.{last_of, far_in, marked_in, marked_cell, marked_argument, wrong_heap, wrong_stack, wrong_argument, marked_checks, wrong_checks, Clean, Bounded};
+ghost use Rattle.std.specs.Prelude.{◌≡◌, ◌↔◌, true, false, ◌<◌, length};
+ghost use Rattle.machine.specs.Lent.{seen};
+ghost use Rattle.machine.specs.Refusals.{accepted, first_of, bad_heap};
+ghost use Rattle.cells.specs.declared.places.Bad.{Bad};
+ghost use Rattle.cells.specs.Cells.{top, saved, last_of, far_in, marked_in, marked_cell, marked_argument, wrong_stack, wrong_argument, checks_of, clean, Clean, Every, struct_good};
 
-use super::words::{argument_well, functor_good, stack_word_well};
-use machine::{CELL, FIXED};
+use super::noted::Noted;
+use super::words::{argument_well, functor_good, marked, stack_word_well};
+use cell::Tag;
+use machine::{CELL, FIXED, H};
 
 // The last cell that a word refers to, a STRUCT's arguments not counted; 0 of a CONST, which refers to none. A stack address lies above
-// every h, so a VAR that holds one needs no test of its own.
+// every H, so a VAR that holds one needs no test of its own.
+#[tactic(auto, unfolding(crate::specs::Cells::last_of))]
 fn last_of(word: u32) -> u32
     ensures { result ≡ last_of word }
 {
-    let tag = cell::tag(word);
-    let second = if tag == cell::LIST { 1 } else { 0 };
-    let last = cell::value(word) + second;
+    let tag = cell::tag_number(word);
+    let last = cell::value(word) + u32::from(tag == cell::LIST);
     if tag == cell::CONST { 0 } else { last }
 }
 
-// Whether every heap cell below h has clear bits and a last cell below h. Faults are counted and none ends the pass: a turn without a
+// Whether every heap cell below H has clear bits and a last cell below H. Faults are counted and none ends the pass: a turn without a
 // branch is one that the compiler makes wide, several cells at a time.
-fn values_good(heap: &[u32], h: usize) -> bool
-    requires { (h ≤ length heap.now) × (h ≤ heap_most) }
-    ensures { (result ≡ true) ↔ Clean (marked_in heap.now) (far_in heap.now h) h }
+#[tactic(auto, unfolding(machine::specs::Layout::field))]
+fn values_good(image: Noted<'_>) -> bool
+    ensures { (result ≡ true) ↔ Clean (marked_in image.entry.view.heap.now) (far_in image.entry.view.heap.now (top (seen image.entry.view))) (top (seen image.entry.view)) }
 {
-    let limit = h as u32;
-    let mut wrong: u32 = 0;
-    let mut i = 0;
-    while i < h {
-        let word = heap[i];
-        let far = if limit <= last_of(word) { 1 } else { 0 };
-        let bits = if word % 4 != 0 { 1 } else { 0 };
-        wrong += far + bits;
-        i += 1;
+    let limit = image.view.control[H];
+    let mut wrong = 0;
+    for word in &image.view.heap[..limit as usize] {
+        wrong += u32::from(limit <= last_of(*word)) + u32::from(word % 4 != 0);
     }
     wrong == 0
 }
 
-// Whether every heap cell below h is good, once all have passed values_good: only a STRUCT is left to look at, and its functor stands
-// below h.
-fn structures_good(heap: &[u32], h: usize) -> bool
-    requires { (h ≤ length heap.now) × (h ≤ heap_most) × Clean (marked_in heap.now) (far_in heap.now h) h }
-    ensures { (result ≡ true) ↔ Clean (marked_in heap.now) (wrong_heap heap.now h) h }
+// Whether the heap cell at i is no STRUCT, or one whose first cell is a functor with its arguments below H.
+#[tactic(auto, unfolding(crate::specs::Cells::struct_good, crate::specs::Cells::far_in, crate::specs::Cells::last_of))]
+fn struct_good(image: Noted<'_>, i: usize) -> bool
+    requires inside { i < top (seen image.view) }
+    requires near { far_in image.view.heap.now (top (seen image.view)) i ≡ false }
+    ensures { result ≡ struct_good (seen image.entry.view) i }
 {
-    let mut i = 0;
-    while i < h {
-        let word = heap[i];
-        if cell::tag(word) == cell::STRUCT {
-            let v = cell::value(word) as usize;
-            if !functor_good(heap, h, v) {
-                return false;
-            }
-        }
-        i += 1;
+    let word = image.view.heap[i];
+    match Tag::of(word) {
+        Tag::Struct => functor_good(image, cell::value(word) as usize),
+        _ => true,
     }
-    true
 }
 
-// Whether every heap cell below h is good. Two passes: what a word alone decides takes no branch, and only STRUCTs, whose functors must be
-// looked up, take one.
-fn heap_good(heap: &[u32], h: usize) -> bool
-    requires { (h ≤ length heap.now) × (h ≤ heap_most) }
-    ensures { result ≡ true → Clean (marked_in heap.now) (wrong_heap heap.now h) h }
+// Whether every STRUCT below H is good. Of cells that have all passed values_good nothing else is left to look at.
+fn structures_good(image: Noted<'_>) -> bool
+    requires { Clean (marked_in image.view.heap.now) (far_in image.view.heap.now (top (seen image.view))) (top (seen image.view)) }
+    ensures { Every (struct_good (seen image.entry.view)) (top (seen image.entry.view)) result }
 {
-    if !values_good(heap, h) {
-        return false;
-    }
-    structures_good(heap, h)
+    (0..image.top()).all(|i| struct_good(image, i))
+}
+
+// Whether every heap cell below H is good. Two passes: what a word alone decides takes no branch, and only STRUCTs, whose functors must be
+// looked up, take one.
+fn heap_good(image: Noted<'_>) -> bool
+    ensures { result ≡ true → Clean (marked_in image.entry.view.heap.now) (bad_heap (seen image.entry.view)) (top (seen image.entry.view)) }
+{
+    values_good(image) && structures_good(image)
 }
 
 // Whether the stack word at i is no cell or a good one.
-fn cell_good(stack: &[u32], heap: &[u32], h: usize, work: &[u32], notes: usize, i: usize) -> bool
-    requires { (h ≤ length heap.now) × (h ≤ heap_most) × (notes + length stack.now ≤ length work.now) × (i < length stack.now) × (length stack.now ≤ stack_most) }
-    ensures { result ≡ true → (marked_cell stack.now work.now notes i ≡ false) × (wrong_stack heap.now h stack.now work.now notes i ≡ false) }
+#[tactic(auto, unfolding(crate::specs::Cells::marked_cell, crate::specs::Cells::wrong_stack))]
+fn cell_good(image: Noted<'_>, i: usize) -> bool
+    requires { i < length image.view.stack.now }
+    ensures { result ≡ clean (marked_cell (seen image.entry.view) image.entry.work.now) (wrong_stack (seen image.entry.view) image.entry.work.now) i }
 {
-    if work[notes + i] != CELL {
-        return true;
-    }
-    let word = stack[i];
-    if word % 4 != 0 {
-        return false;
-    }
-    stack_word_well(heap, h, work, notes, stack.len(), i, word)
+    let word = image.view.stack[i];
+    image.work[image.view.heap.len() + i] != CELL
+        || !marked(word) && stack_word_well(image, i, word)
 }
 
 // Whether every stack cell is good.
-fn stack_good(stack: &[u32], heap: &[u32], h: usize, work: &[u32], notes: usize) -> bool
-    requires { (h ≤ length heap.now) × (h ≤ heap_most) × (notes + length stack.now ≤ length work.now) × (length stack.now ≤ stack_most) }
-    ensures { result ≡ true → Clean (marked_cell stack.now work.now notes) (wrong_stack heap.now h stack.now work.now notes) (length stack.now) }
+fn stack_good(image: Noted<'_>) -> bool
+    ensures { Every (clean (marked_cell (seen image.entry.view) image.entry.work.now) (wrong_stack (seen image.entry.view) image.entry.work.now)) (length image.entry.view.stack.now) result }
 {
-    let mut i = 0;
-    while i < stack.len() {
-        if !cell_good(stack, heap, h, work, notes, i) {
-            return false;
-        }
-        i += 1;
-    }
-    true
+    (0..image.view.stack.len()).all(|i| cell_good(image, i))
 }
 
-// Whether every saved argument of the control area is good.
-fn control_good(
-    control: &[u32],
-    n: usize,
-    heap: &[u32],
-    h: usize,
-    work: &[u32],
-    notes: usize,
-    count: usize,
-) -> bool
-    requires { (h ≤ length heap.now) × (h ≤ heap_most) × (notes + count ≤ length work.now) × (fixed + n ≤ length control.now) }
-    ensures { result ≡ true → Clean (marked_argument control.now) (wrong_argument heap.now h count work.now notes control.now) n }
+// Whether the saved argument i is good.
+#[tactic(auto, unfolding(machine::specs::Layout::field, machine::specs::Layout::argument, crate::specs::Cells::marked_argument, crate::specs::Cells::wrong_argument))]
+fn argument_good(image: Noted<'_>, i: usize) -> bool
+    requires { i < saved (seen image.view) }
+    ensures { result ≡ clean (marked_argument image.entry.view.control.now) (wrong_argument (seen image.entry.view) image.entry.work.now) i }
 {
-    let mut i = 0;
-    while i < n {
-        let word = control[FIXED + i];
-        if word % 4 != 0 {
-            return false;
-        }
-        if !argument_well(heap, h, work, notes, count, word) {
-            return false;
-        }
-        i += 1;
-    }
-    true
+    let word = image.view.control[FIXED + i];
+    !marked(word) && argument_well(image, word)
+}
+
+// Whether every saved argument is good.
+fn control_good(image: Noted<'_>) -> bool
+    ensures { Every (clean (marked_argument image.entry.view.control.now) (wrong_argument (seen image.entry.view) image.entry.work.now)) (saved (seen image.entry.view)) result }
+{
+    (0..image.saved()).all(|i| argument_good(image, i))
 }
 
 // Whether no cell is refused under 5 or 6.
-pub(super) fn all_good(
-    control: &[u32],
-    n: usize,
-    stack: &[u32],
-    heap: &[u32],
-    h: usize,
-    work: &[u32],
-    notes: usize,
-) -> bool
-    requires { Bounded control.now n stack.now heap.now h work.now notes }
-    ensures { result ≡ true → (first_of (marked_checks control.now n stack.now heap.now h work.now notes) ≡ accepted)
-        × (first_of (wrong_checks control.now n stack.now heap.now h work.now notes) ≡ accepted) }
+pub(super) fn all_good(image: Noted<'_>) -> bool
+    ensures { (bad : Bad) → result ≡ true → first_of (checks_of bad (seen image.entry.view) image.entry.work.now) ≡ accepted }
 {
-    if !heap_good(heap, h) {
-        return false;
-    }
-    if !stack_good(stack, heap, h, work, notes) {
-        return false;
-    }
-    control_good(control, n, heap, h, work, notes, stack.len())
+    heap_good(image) && stack_good(image) && control_good(image)
 }

@@ -2,68 +2,43 @@
 // its cells are good; number and place are looked for only if one is not.
 #![tactic(auto)]
 
+mod noted; // noted.rt: an image with the notes of its stack words
 mod words; // words.rt: where one word may refer to
 mod good; // good.rt: whether every cell is good
-mod marked; // marked.rt: the lowest place for 5
-mod wrong; // wrong.rt: the lowest place for 6
-mod entries; // entries.rt: the lowest place for 7
+mod places; // places.rt: the lowest place for 5, for 6 and for 7
 
 ghost use Rattle.std.specs.Prelude.{◌≡◌, [], length};
-ghost use Rattle.machine.specs.Layout.{Image};
+ghost use Rattle.machine.specs.Lent.{seen};
 ghost use Rattle.machine.specs.Refusals.{first_of, cell_checks, entry_checks};
 ghost use Rattle.cells.specs.Cells.{checked_to, Right, Sized, EntriesSized};
 
-use machine::{Area, H, N, Place, Refusal, T};
+use machine::{Area, Place, Refusal, View};
+use noted::Noted;
+use places::Bad;
 
-// What a check answers.
-#[derive(Clone, Copy)]
-pub enum Checked {
-    Passed,
-    Refused(Refusal),
+// Refusals 5 and 6, of an image whose stack words are noted in the work words, after one for each heap cell.
+pub fn check_cells(view: View<'_>, work: &[u32]) -> Result<(), Refusal>
+    requires { Sized (seen view) work.now }
+    ensures { Right (seen view.entry) work.now (length view.entry.heap.now) → checked_to result ≡ first_of (cell_checks (seen view.entry) []) }
+{
+    let image = Noted { view, work };
+    if good::all_good(image) {
+        return Ok(());
+    }
+    places::find(Bad::Bits, image)?;
+    places::find(Bad::Reference, image)
 }
 
-// Refusals 5 and 6, of an image whose stack words are noted.
-pub fn check_cells(
-    control: &[u32],
-    stack: &[u32],
-    heap: &[u32],
-    work: &[u32],
-    notes: usize,
-) -> Checked
-    requires { Sized control.now stack.now heap.now work.now notes }
-    ensures { (X : Image) → X.control ≡ control.now → X.stack ≡ stack.now → X.heap ≡ heap.now → Right X work.now notes → checked_to result ≡ first_of (cell_checks X []) }
+// Refusal 7, of such an image.
+pub fn check_entries(view: View<'_>, work: &[u32]) -> Result<(), Refusal>
+    requires { EntriesSized (seen view) work.now }
+    ensures { Right (seen view.entry) work.now (length view.entry.heap.now) → checked_to result ≡ first_of (entry_checks (seen view.entry) []) }
 {
-    let h = control[H] as usize;
-    let n = control[N] as usize;
-    if good::all_good(control, n, stack, heap, h, work, notes) {
-        return Checked::Passed;
-    }
-    let found = marked::find(control, n, stack, heap, h, work, notes);
-    match found {
-        Checked::Refused(refusal) => Checked::Refused(refusal),
-        Checked::Passed => wrong::find(control, n, stack, heap, h, work, notes),
-    }
-}
-
-// Refusal 7, of an image whose stack words, `count` of them, are noted.
-pub fn check_entries(
-    control: &[u32],
-    trail: &[u32],
-    count: usize,
-    work: &[u32],
-    notes: usize,
-) -> Checked
-    requires { EntriesSized control.now trail.now count work.now notes }
-    ensures { (X : Image) → X.control ≡ control.now → length X.stack ≡ count → X.trail ≡ trail.now → Right X work.now notes → checked_to result ≡ first_of (entry_checks X []) }
-{
-    let h = control[H];
-    let t = control[T] as usize;
-    let i = entries::first_wrong_entry(trail, t, h, count, work, notes);
-    if i < t {
-        return Checked::Refused(Refusal::Entry(Place {
+    match places::wrong_entry(view, work) {
+        Some(index) => Err(Refusal::Entry(Place {
             area: Area::Trail,
-            index: i,
-        }));
+            index,
+        })),
+        None => Ok(()),
     }
-    Checked::Passed
 }

@@ -1,104 +1,88 @@
-// The tests of one word: where it may refer to.
-ghost use Rattle.std.specs.Prelude.{◌≡◌, ◌||◌, ◌+◌, ◌<◌, ◌≤◌, length};
-ghost use Rattle.machine.specs.Layout.{heap_most, stack_most};
-ghost use Rattle.machine.specs.Refusals.{refers_well};
-ghost use Rattle.cells.specs.Cells.{functor_well, names_noted, well_on_stack};
+// The tests of one word: whether m or f is set, and where it may refer to.
+ghost use Rattle.std.specs.Prelude.{◌≡◌, ◌+◌, ◌<◌, ◌≤◌, length};
+ghost use Rattle.machine.specs.Lent.{seen};
+ghost use Rattle.machine.specs.Refusals.{marked, refers_well};
+ghost use Rattle.cells.specs.Cells.{top, functor_well, names_noted, well_on_stack, well_as_argument, well_entry, NoteOf, EntriesSized};
 
-use machine::CELL;
+use super::noted::Noted;
+use cell::{STACK_BASE, Tag};
+use machine::{CELL, H, View};
 
-// Whether the cell at v is a functor whose arguments end at or below h.
-pub fn functor_good(heap: &[u32], h: usize, v: usize) -> bool
-    requires { (v < h) × (h ≤ length heap.now) × (h ≤ heap_most) }
-    ensures { result ≡ functor_well heap.now h v }
+// Whether m or f is set.
+#[tactic(auto, unfolding(machine::specs::Refusals::marked))]
+pub(super) fn marked(word: u32) -> bool
+    ensures { result ≡ marked word }
 {
-    let functor = heap[v];
-    if cell::tag(functor) != cell::CONST {
-        return false;
-    }
-    let arity = cell::arity(functor) as usize;
-    if arity == 0 {
-        return false;
-    }
-    v + 1 + arity <= h
+    cell::bits(word) != 0
 }
 
-// Whether a word refers within the heap below h, and a STRUCT to a functor.
-pub(super) fn refers_well(heap: &[u32], h: usize, word: u32) -> bool
-    requires { (h ≤ length heap.now) × (h ≤ heap_most) }
-    ensures { result ≡ refers_well h heap.now word }
+// Whether the cell at v is a functor whose arguments end at or below H.
+#[tactic(auto, unfolding(crate::specs::Cells::functor_well, machine::specs::Refusals::functor_at))]
+pub(super) fn functor_good(image: Noted<'_>, v: usize) -> bool
+    requires { v < top (seen image.view) }
+    ensures { result ≡ functor_well image.entry.view.heap.now (top (seen image.entry.view)) v }
 {
-    let tag = cell::tag(word);
-    if tag == cell::CONST {
-        return true;
-    }
+    let functor = image.view.heap[v];
+    let arity = cell::arity(functor) as usize;
+    Tag::of(functor) == Tag::Const && arity != 0 && v + 1 + arity <= image.top()
+}
+
+// Whether a word refers within the heap below H, and a STRUCT to a functor.
+#[tactic(auto, unfolding(machine::specs::Refusals::refers_well, crate::specs::Cells::functor_well, cell::specs::Word::extent))]
+pub(super) fn refers_well(image: Noted<'_>, word: u32) -> bool
+    ensures { result ≡ refers_well (top (seen image.entry.view)) image.entry.view.heap.now word }
+{
     let v = cell::value(word) as usize;
-    if h <= v {
-        return false;
+    match Tag::of(word) {
+        Tag::Const => true,
+        _ if image.top() <= v => false,
+        Tag::Var => true,
+        Tag::List => v + 2 <= image.top(),
+        Tag::Struct => functor_good(image, v),
     }
-    if tag == cell::VAR {
-        return true;
-    }
-    if tag == cell::LIST {
-        return v + 2 <= h;
-    }
-    functor_good(heap, h, v)
+}
+
+// The note of the stack word that an address names, if it names one.
+fn note_of(view: View<'_>, work: &[u32], address: u32) -> Option<u32>
+    requires { length view.heap.now + length view.stack.now ≤ length work.now }
+    ensures { NoteOf (seen view.entry) work.now address result }
+{
+    let i = address.checked_sub(STACK_BASE)? as usize;
+    (i < view.stack.len()).then(|| work[view.heap.len() + i])
 }
 
 // Whether a word is a VAR that names a stack word which is a cell.
-fn names_cell(work: &[u32], notes: usize, count: usize, word: u32) -> bool
-    requires { notes + count ≤ length work.now }
-    ensures { result ≡ names_noted work.now notes count word }
+#[tactic(auto, unfolding(crate::specs::Cells::names_noted))]
+fn names_cell(image: Noted<'_>, word: u32) -> bool
+    ensures { result ≡ names_noted (seen image.entry.view) image.entry.work.now word }
 {
-    if cell::tag(word) != cell::VAR {
-        return false;
-    }
-    let v = cell::value(word);
-    if v < cell::STACK_BASE {
-        return false;
-    }
-    let i = cell::stack_index(v) as usize;
-    if count <= i {
-        return false;
-    }
-    work[notes + i] == CELL
+    Tag::of(word) == Tag::Var && note_of(image.view, image.work, cell::value(word)) == Some(CELL)
 }
 
 // Whether the stack word at i may hold this cell.
-pub(super) fn stack_word_well(
-    heap: &[u32],
-    h: usize,
-    work: &[u32],
-    notes: usize,
-    count: usize,
-    i: usize,
-    word: u32,
-) -> bool
-    requires { (h ≤ length heap.now) × (h ≤ heap_most) × (notes + count ≤ length work.now) × (i < count) × (count ≤ stack_most) }
-    ensures { result ≡ well_on_stack heap.now h work.now notes count i word }
+#[tactic(auto, unfolding(crate::specs::Cells::well_on_stack))]
+pub(super) fn stack_word_well(image: Noted<'_>, i: usize, word: u32) -> bool
+    requires { i < length image.view.stack.now }
+    ensures { result ≡ well_on_stack (seen image.entry.view) image.entry.work.now i word }
 {
-    if refers_well(heap, h, word) {
-        return true;
-    }
-    if !names_cell(work, notes, count, word) {
-        return false;
-    }
-    cell::value(word) as usize <= cell::STACK_BASE as usize + i
+    refers_well(image, word)
+        || names_cell(image, word) && cell::value(word) as usize <= STACK_BASE as usize + i
 }
 
 // Whether a saved argument of the control area may be this cell.
-pub(super) fn argument_well(
-    heap: &[u32],
-    h: usize,
-    work: &[u32],
-    notes: usize,
-    count: usize,
-    word: u32,
-) -> bool
-    requires { (h ≤ length heap.now) × (h ≤ heap_most) × (notes + count ≤ length work.now) }
-    ensures { result ≡ (refers_well h heap.now word || names_noted work.now notes count word) }
+#[tactic(auto, unfolding(crate::specs::Cells::well_as_argument))]
+pub(super) fn argument_well(image: Noted<'_>, word: u32) -> bool
+    ensures { result ≡ well_as_argument (seen image.entry.view) image.entry.work.now word }
 {
-    if refers_well(heap, h, word) {
-        return true;
-    }
-    names_cell(work, notes, count, word)
+    refers_well(image, word) || names_cell(image, word)
+}
+
+// Whether a trail entry names a heap cell below H or a stack word that is no field.
+#[tactic(auto, unfolding(machine::specs::Layout::field, crate::specs::Cells::well_entry))]
+pub(super) fn entry_well(view: View<'_>, work: &[u32], entry: u32) -> bool
+    requires { EntriesSized (seen view) work.now }
+    ensures { result ≡ well_entry (seen view.entry) work.now entry }
+{
+    cell::in_heap(entry) && entry < view.control[H]
+        || note_of(view, work, entry).is_some_and(|note| note <= CELL)
 }

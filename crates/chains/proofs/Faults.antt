@@ -11,7 +11,7 @@ use Rattle.machine.specs.Chains.{Thing, frame, point, frames, fuel_of, points, w
 use Rattle.machine.proofs.Tests.{not_so}
 use Rattle.machine.proofs.Lists.{fault-append}
 use Rattle.machine.proofs.Links.{Ok, sound-ok, ok-sound}
-use Rattle.chains.specs.Noting.{FaultFrom, ended, found, above, inside, older}
+use Rattle.chains.specs.Noting.{FaultFrom, ended, found, above, inside, older, first_frame, first_point}
 
 module _ (X : Image) where
   unsound : (x : Thing) → (Ok X x → ⊥) → sound X x ≡ false
@@ -34,10 +34,10 @@ module _ (X : Image) where
 
   -- ---- the walk
 
-  pub frames-stop : {i : ℕ} → FaultFrom X (frame (reg X E) (size_of (reg X L)) (length X.stack)) (broken i) → fault_of X (walk X) ≡ broken i
+  pub frames-stop : {i : ℕ} → FaultFrom X (first_frame X) (broken i) → fault_of X (walk X) ≡ broken i
   unfolding walk
   frames-stop z = rw (fault-append X, frames-fault (fuel_of X) (reg X E) (size_of (reg X L)) (length X.stack) (omega arith) z)
 
-  pub points-end : {f : Fault} → FaultFrom X (frame (reg X E) (size_of (reg X L)) (length X.stack)) whole → FaultFrom X (point (reg X B) (length X.stack) (reg X T) (reg X H)) f → fault_of X (walk X) ≡ f
+  pub points-end : {f : Fault} → FaultFrom X (first_frame X) whole → FaultFrom X (first_point X) f → fault_of X (walk X) ≡ f
   unfolding walk
   points-end w z = rw (fault-append X, frames-fault (fuel_of X) (reg X E) (size_of (reg X L)) (length X.stack) (omega arith) w) (points-fault (fuel_of X) (reg X B) (length X.stack) (reg X T) (reg X H) (omega arith) (omega arith) z)

@@ -8,10 +8,10 @@ use mathlib.Core.List.{List, [], ◌∷◌}
 use native.Mathlib.Omega.{arith}
 use native.Mathlib.Decide.{ℕ_discrete}
 use borrow.Author.Tests.{eqb-true}
-use lib.ListN.{length}
+use lib.ListN.{length, get_or}
 use Rattle.machine.specs.Layout.{Image, L, E, B, T, H, none, at, size_of, size_at, link_at}
 use Rattle.machine.specs.Chains.{Thing, frame, point, index_of, whole}
-use Rattle.machine.specs.Roles.{CL, gives, some as some_of, note_at}
+use Rattle.machine.specs.Roles.{CL, gives, some as some_of}
 use Rattle.machine.proofs.Tests.{true-false}
 use Rattle.machine.proofs.Lists.{In, here, there, in-cons, some_in}
 use Rattle.machine.proofs.Links.{Next, up, inner, back, Real, next, Ok}
@@ -39,9 +39,9 @@ in-behind (y ∷ due) m = there m
 pub point-first : {b limit t h : ℕ} {rest : List Thing} → ((e k limit' : ℕ) → In (frame e k limit') rest → ⊥) → (e k limit' : ℕ) → In (frame e k limit') (point b limit t h ∷ rest) → ⊥
 point-first f e k limit' m = ⊎_elim (λ q. let z : ◌≡◌ {A = ℕ} 0 1 = cc in omega arith) (f e k limit') (in-cons m)
 
-module _ {X : Image} {x : Thing} {rest : List Thing} {notes : ℕ} {work : List ℕ} (n : Noting X (x ∷ rest) notes work) where
+module _ {X : Image} {x : Thing} {rest : List Thing} {notes : List ℕ} (n : Noting X (x ∷ rest) notes) where
   -- none is no thing: nothing leads there
-  pub noting-none : index_of x ≡ none → Noting X rest notes work
+  pub noting-none : index_of x ≡ none → Noting X rest notes
   noting-none e = record {
     things = n.things;
     shown = n.shown;
@@ -64,13 +64,13 @@ module _ {X : Image} {x : Thing} {rest : List Thing} {notes : ℕ} {work : List 
     is_real : Real X x
     is_real = n.real_due x (here refl) some
 
-    module _ (o : Ok X x) {work' : List ℕ} (g : Adds X x notes work work') where
+    module _ (o : Ok X x) {notes' : List ℕ} (g : Adds X x notes notes') where
       -- x is noted; what it leads to is noted or due
-      noting-more : {due : List Thing} → ((y : Thing) → In y rest → In y due) → ((y : Thing) → In y due → index_of y ≢ none → Real X y) → ((y : Thing) → Next X x y → In y (x ∷ n.things) ⊎ In y due) → ((e k limit : ℕ) → In (frame e k limit) (behind due) → ⊥) → (m : Noting X due notes work') × In x m.things
+      noting-more : {due : List Thing} → ((y : Thing) → In y rest → In y due) → ((y : Thing) → In y due → index_of y ≢ none → Real X y) → ((y : Thing) → Next X x y → In y (x ∷ n.things) ⊎ In y due) → ((e k limit : ℕ) → In (frame e k limit) (behind due) → ⊥) → (m : Noting X due notes') × In x m.things
       noting-more {due} f r c p = (
         record {
           things = x ∷ n.things;
-          shown = λ i l. shown-more X i x n.things notes g (n.shown i l);
+          shown = λ i l. shown-more X i x n.things g (n.shown i l);
           real = λ y m. ⊎_elim (λ q. subst (Real X) (sym q) is_real) (n.real y) (in-cons m);
           ok = λ y m. ⊎_elim (λ q. subst (Ok X) (sym q) o) (n.ok y) (in-cons m);
           real_due = r;
@@ -81,7 +81,7 @@ module _ {X : Image} {x : Thing} {rest : List Thing} {notes : ℕ} {work : List 
       )
 
       -- what a thing noted before leads to is noted, or due
-      noting-met : {a : Thing} → In a n.things → ((y : Thing) → Next X x y → Next X a y) → (m : Noting X rest notes work') × In x m.things
+      noting-met : {a : Thing} → In a n.things → ((y : Thing) → Next X x y → Next X a y) → (m : Noting X rest notes') × In x m.things
       noting-met m f = noting-more (λ y w. w) (λ y w z. n.real_due y (there w) z) (λ y w. moved (n.closed y (by m (f y w)))) (λ e k limit w. n.frame_first e k limit (in-behind rest w))
 
 -- what is due is real unless it is none
@@ -90,7 +90,7 @@ module _ {X : Image} where
   due-real f q = subst (λ (z : Thing). index_of z ≢ none → Real X z) (sym q) f
 
 -- where no frame is due, all frames above a noted one are noted, so none of them is at fault: each lies below the one before it
-noted-whole : {X : Image} {due : List Thing} {notes : ℕ} {work : List ℕ} (n : Noting X due notes work) → ((e k limit : ℕ) → In (frame e k limit) due → ⊥) → (bound e k limit : ℕ) → e < bound → In (frame e k limit) n.things → FaultFrom X (frame e k limit) whole
+noted-whole : {X : Image} {due : List Thing} {notes : List ℕ} (n : Noting X due notes) → ((e k limit : ℕ) → In (frame e k limit) due → ⊥) → (bound e k limit : ℕ) → e < bound → In (frame e k limit) n.things → FaultFrom X (frame e k limit) whole
 noted-whole n f zero e k limit l m = absurd (omega arith)
 noted-whole {X} {due} n f (suc bound) e k limit l m =
     elim (ℕ_discrete e none) [
@@ -117,9 +117,9 @@ module _ {X : Image} {e k limit : ℕ} where
   frame-next : {y : Thing} → Next X (frame e k limit) y → y ≡ frame (link_at X e) (size_of (size_at X e)) e
   frame-next (up n) = refl
 
-  module _ {rest : List Thing} {notes : ℕ} {work work' : List ℕ} (n : Noting X (frame e k limit ∷ rest) notes work) (some : e ≢ none) (o : Ok X (frame e k limit)) (g : Adds X (frame e k limit) notes work work') where
+  module _ {rest : List Thing} {notes notes' : List ℕ} (n : Noting X (frame e k limit ∷ rest) notes) (some : e ≢ none) (o : Ok X (frame e k limit)) (g : Adds X (frame e k limit) notes notes') where
     -- a frame is noted, and its parent is due
-    pub noting-frame : Noting X (frame (link_at X e) (size_of (size_at X e)) e ∷ rest) notes work'
+    pub noting-frame : Noting X (frame (link_at X e) (size_of (size_at X e)) e ∷ rest) notes'
     noting-frame =
         (noting-more
         n
@@ -133,7 +133,7 @@ module _ {X : Image} {e k limit : ℕ} where
         ).0
 
     -- a frame is noted that was noted before, in this or another view; neither it nor a frame above it is at fault
-    pub noting-again : {r : Bool} → e < length X.stack → ShowsSize (note_at work notes e) r → r ≡ true → Noting X rest notes work' × FaultFrom X (frame e k limit) whole
+    pub noting-again : {r : Bool} → e < length X.stack → ShowsSize (get_or notes e 0) r → r ≡ true → Noting X rest notes' × FaultFrom X (frame e k limit) whole
     noting-again l s q =
         let m = some_in (gives X e CL) n.things ((s.size (λ r. some_of (gives X e r) n.things) (n.shown e l)).0 q) in
         let a = noting-met n some o g m.1 (met_next m.0 m.2) in
@@ -144,7 +144,7 @@ point-next (inner n) = here refl
 point-next (back n) = there (here refl)
 
 -- a choice point is noted, and its frame and the older choice point are due
-pub noting-point : {X : Image} {b limit t h : ℕ} {rest : List Thing} {notes : ℕ} {work work' : List ℕ} (n : Noting X (point b limit t h ∷ rest) notes work) (some : b ≢ none) (o : Ok X (point b limit t h)) (g : Adds X (point b limit t h) notes work work') → Noting X (frame (at X b E) (size_of (at X b L)) b ∷ point (at X b B) b (at X b T) (at X b H) ∷ rest) notes work'
+pub noting-point : {X : Image} {b limit t h : ℕ} {rest : List Thing} {notes notes' : List ℕ} (n : Noting X (point b limit t h ∷ rest) notes) (some : b ≢ none) (o : Ok X (point b limit t h)) (g : Adds X (point b limit t h) notes notes') → Noting X (frame (at X b E) (size_of (at X b L)) b ∷ point (at X b B) b (at X b T) (at X b H) ∷ rest) notes'
 noting-point n some o g =
     (noting-more
     n

@@ -5,7 +5,8 @@ use mathlib.Core.Path.{◌≡◌, refl, sym, ap, ◌∙◌, subst}
 use mathlib.Core.Logic.{◌≢◌, ◌⊎◌, inl, inr, ⊎_elim, ◌↔◌}
 use mathlib.Core.Bool.{true}
 use native.Mathlib.Omega.{arith}
-use Rattle.machine.specs.Roles.{Role, CL, code_of}
+use native.Mathlib.Decide.{ℕ_discrete}
+use Rattle.machine.specs.Roles.{Role, cell, CL, code_of}
 use Rattle.machine.proofs.Roles.{code-inj, code-range}
 use Rattle.chains.specs.Notes.{several, several_with_size, Shows, nothing, single, mixed, mixed_with_size}
 use Rattle.chains.specs.Noting.{Joins}
@@ -124,7 +125,18 @@ module _ {note role : ℕ} where
       gains = λ set r c h. shows-size r h z (λ q. d (q ∙ c)) (⊎_elim (λ q. inl (shown-size h q)) (λ w. ⊎_elim (λ q. inl (shown-with-size h q)) (λ q. inr (code-inj r CL (c ∙ q))) w) o);
     }
 
-    pub joins-mixed : note ≢ code_of CL → note ≢ several_with_size → role ≢ code_of CL → Joins note role several
-    joins-mixed a b o = record {
-      gains = λ set r c h. shows-mixed r h z (λ q. d (q ∙ c)) (λ w. ⊎_elim a b (size-shown h w)) (λ q. o (sym c ∙ ap code_of q));
+    pub joins-mixed : ((note ≡ code_of CL) ⊎ (note ≡ several_with_size) → ⊥) → role ≢ code_of CL → Joins note role several
+    joins-mixed n o = record {
+      gains = λ set r c h. shows-mixed r h z (λ q. d (q ∙ c)) (λ w. n (size-shown h w)) (λ q. o (sym c ∙ ap code_of q));
     }
+
+-- nothing, or a cell, gains the role of a cell
+pub joins-low : (note : ℕ) → note ≤ code_of cell → Joins note (code_of cell) (code_of cell)
+joins-low note l =
+    elim (ℕ_discrete note 0) [
+      | yes e ↦ joins-first e
+      | no n ↦ let q : note ≡ code_of cell = omega arith in subst (λ (r : ℕ). Joins note (code_of cell) r) q (joins-again q)
+    ]
+
+-- what `joined` and `joined_cell` need
+pub ruleset joining = (joins-first, joins-again, joins-size, joins-mixed, joins-low)

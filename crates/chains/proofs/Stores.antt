@@ -1,13 +1,16 @@
--- Words that gain roles, part by part: a part is none, one word, or two parts side by side. Assumes nothing.
-use Prim.Native.Nat.{ℕ, ◌+◌, ◌≤◌, ◌<◌}
-use mathlib.Core.Path.{◌≡◌, refl, sym, ◌∙◌, subst}
+-- What keeps all words but those of a part, and a part of the words as a list of its own. Assumes nothing.
+use Prim.Native.Nat.{ℕ, ◌+◌, ◌-◌, ◌≤◌, ◌<◌}
+use mathlib.Core.Path.{◌≡◌, refl, ◌∙◌}
 use mathlib.Core.List.{List}
 use native.Mathlib.Omega.{arith}
 use native.Mathlib.Decide.{dec_lt}
-use lib.ListN.{length, get_or, set, take, drop, length-set}
-use lib.Seq.{get_or-set_same, get_or-set_other}
+use lib.ListN.{length, get_or, take, drop, length-take, length-drop}
+use lib.Seq.{get_or-take, get_or-drop}
+use borrow.Rule.Slice.PartMut.{put_mid, same_len_mid}
+use Rattle.std.proofs.lemmas.List.{places}
+use Rattle.std.proofs.Common.{rules}
 use Rattle.machine.proofs.Parts.{front_same, rest-same}
-use Rattle.chains.specs.Noting.{Joins, Kept, Gains}
+use Rattle.chains.specs.Noting.{Kept}
 
 module _ {a z : ℕ} where
   pub kept-none : {w : List ℕ} → Kept a z w w
@@ -25,39 +28,32 @@ module _ {a z : ℕ} where
   pub kept-after : {u v : List ℕ} → a ≤ z → Kept a z u v → drop z v ≡ drop z u
   kept-after {u} {v} o k = rest-same z v u k.same (λ j l. k.outside j (λ p q. omega arith))
 
-module _ {f : ℕ → ℕ} where
-  pub gains-none : {a : ℕ} {w : List ℕ} → Gains f a a w w
-  gains-none = record { hit = λ j p q. absurd (omega arith); kept = kept-none }
+-- ---- a part of the words, in its place: k words from a on
 
-  pub gains-one : (w : List ℕ) (i v : ℕ) → i < length w → Joins (get_or w i 0) (f i) v → Gains f i (i + 1) w (set w i v)
-  gains-one w i v l h = record {
-    hit = λ j p q.
-        let e : i ≡ j = omega arith in
-        subst (λ (n : ℕ). Joins (get_or w n 0) (f n) (get_or (set w i v) n 0)) e (rw (get_or-set_same w i v 0 l) h);
-    kept = record { outside = λ j o. get_or-set_other w i j v 0 (λ e. o (omega arith) (omega arith)); same = length-set w i v };
-  }
+module _ (a k : ℕ) (w : List ℕ) where
+  pub part-was : (i : ℕ) → i < k → get_or (take k (drop a w)) i 0 ≡ get_or w (a + i) 0
+  part-was i q = get_or-take k (drop a w) i 0 q ∙ get_or-drop a w i 0
 
-  pub gains-join : {a m z : ℕ} {u v w : List ℕ} → a ≤ m → m ≤ z → Gains f a m u v → Gains f m z v w → Gains f a z u w
-  gains-join {a} {m} {z} {u} {v} {w} l n g h = record {
-    hit = λ j p q.
-        elim (dec_lt j m) [
-          | yes o ↦ subst (λ (x : ℕ). Joins (get_or u j 0) (f j) x) (sym (h.kept.outside j (λ c d. omega arith))) (g.hit j p o)
-          | no o ↦ subst (λ (x : ℕ). Joins x (f j) (get_or w j 0)) (g.kept.outside j (λ c d. o d)) (h.hit j (omega arith) q)
-        ];
-    kept = kept-join (kept-wide (omega arith) n g.kept) (kept-wide l (omega arith) h.kept);
-  }
+  module _ (part : List ℕ) (l : a + k ≤ length w) where
+    pub part-is : length part ≡ length (take k (drop a w)) → (i : ℕ) → i < k → get_or (put_mid a k w part) (a + i) 0 ≡ get_or part i 0
+    part-is same i q =
+        let long : length part ≡ k = omega (arith, same, length-take k (drop a w), length-drop a w) in
+        search (rules, places)
 
-  -- a role by another name
-  pub gains-same : {g : ℕ → ℕ} {a z : ℕ} {u v : List ℕ} → ((j : ℕ) → a ≤ j → j < z → f j ≡ g j) → Gains f a z u v → Gains g a z u v
-  gains-same {g} {a} {z} {u} {v} e h = record {
-    hit = λ j p q. subst (λ (r : ℕ). Joins (get_or u j 0) r (get_or v j 0)) (e j p q) (h.hit j p q);
-    kept = h.kept;
-  }
-
-  -- one more word
-  pub gains-more : {a i v : ℕ} {u w : List ℕ} → a ≤ i → i < length w → Gains f a i u w → Joins (get_or w i 0) (f i) v → Gains f a (i + 1) u (set w i v)
-  gains-more {a} {i} {v} {u} {w} l n g h = gains-join l (omega arith) g (gains-one w i v n h)
-
-  -- the end by another name
-  pub gains-end : {a z z' : ℕ} {u v : List ℕ} → z ≡ z' → Gains f a z u v → Gains f a z' u v
-  gains-end {a} {u = u} {v = v} e g = subst (λ (n : ℕ). Gains f a n u v) e g
+    pub kept-part : {z : ℕ} → a ≤ z → z ≤ a + k → Kept 0 (z - a) (take k (drop a w)) part → Kept a z w (put_mid a k w part)
+    kept-part {z} m n g =
+        let long : length part ≡ k = omega (arith, g.same, length-take k (drop a w), length-drop a w) in
+        record {
+          outside = λ j o.
+              elim (dec_lt j a) [
+                | yes h ↦ search (rules, places)
+                | no h ↦
+                    elim (dec_lt j (a + k)) [
+                      | no q ↦ let past : a + k ≤ j = omega arith in search (rules, places)
+                      | yes q ↦
+                          let e : a + (j - a) ≡ j = omega arith in
+                          rw (← e) (part-is g.same (j - a) (omega arith) ∙ g.outside (j - a) (λ c d. o (omega arith) (omega arith)) ∙ part-was (j - a) (omega arith))
+                    ]
+              ];
+          same = same_len_mid a k w part g.same;
+        }

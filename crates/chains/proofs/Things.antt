@@ -1,16 +1,17 @@
 -- The notes of a list of things become those of the list with one thing more where the thing's words gain its roles: a thing gives each
 -- of its words one role, by the distance from the thing's start. Assumes nothing.
 use Prim.Native.Nat.{ℕ, ◌+◌, ◌-◌}
-use mathlib.Core.Path.{◌≡◌, refl, sym, ap, ◌∙◌, subst}
+use mathlib.Core.Path.{◌≡◌, refl, sym, subst}
 use mathlib.Core.Logic.{◌⊎◌, inl, inr, ⊎_elim, ◌↔◌}
 use mathlib.Core.Bool.{true}
 use mathlib.Core.List.{List, ◌∷◌}
 use native.Mathlib.Omega.{arith}
 use native.Mathlib.Decide.{dec_le, dec_lt}
 use borrow.Author.Tests.{eqb-true, leb-true}
+use lib.ListN.{get_or}
 use Rattle.machine.specs.Layout.{Image, place_of, fixed, frame_fixed}
 use Rattle.machine.specs.Chains.{Thing, frame, point, index_of}
-use Rattle.machine.specs.Roles.{Role, cell, CL, CE, own, gives, some, code_of, note_at}
+use Rattle.machine.specs.Roles.{Role, cell, CL, CE, own, gives, some, code_of}
 use Rattle.machine.proofs.Tests.{true-false, and_left, or_cases, or_left, or_right}
 use Rattle.machine.proofs.Layouts.{place-low}
 use Rattle.machine.proofs.Things.{end_of, Holds, gives-holds, holds-gives, gives_one}
@@ -25,8 +26,8 @@ role_of (frame e k limit) j = frame_role j
 role_of (point b limit t h) j = point_role j
 
 -- the thing's words gain its roles
-abbrev pub Adds : Image → Thing → ℕ → List ℕ → List ℕ → Type 0
-Adds X x notes work work' = Gains (λ j. role_of x (j - (notes + index_of x))) (notes + index_of x) (notes + end_of X x) work work'
+abbrev pub Adds : Image → Thing → List ℕ → List ℕ → Type 0
+Adds X x = Gains (λ j. role_of x (j - index_of x)) (index_of x) (end_of X x)
 
 module _ (X : Image) (i : ℕ) where
   given : (r : Role) (x : Thing) → gives X i r x ≡ true → code_of r ≡ role_of x (i - index_of x)
@@ -66,17 +67,16 @@ module _ (X : Image) (i : ℕ) where
   gives_none x things n s =
       (λ q. or_right (gives X i s x) _ q, λ q. ⊎_elim (λ o. absurd (n (gives-holds X i s x o))) (λ o. o) (or_cases (gives X i s x) _ q))
 
-  pub shown-more : (x : Thing) (things : List Thing) (notes : ℕ) {work work' : List ℕ} → Adds X x notes work work' → Shows (λ (r : Role). some (gives X i r) things ≡ true) (note_at work notes i) → Shows (λ (r : Role). some (gives X i r) (x ∷ things) ≡ true) (note_at work' notes i)
-  shown-more x things notes g h =
+  pub shown-more : (x : Thing) (things : List Thing) {notes notes' : List ℕ} → Adds X x notes notes' → Shows (λ (r : Role). some (gives X i r) things ≡ true) (get_or notes i 0) → Shows (λ (r : Role). some (gives X i r) (x ∷ things) ≡ true) (get_or notes' i 0)
+  shown-more x things g h =
       elim (holds x) [
         | inl o ↦
             let m = holds-gives X i x o in
-            let l : i - index_of x ≡ notes + i - (notes + index_of x) = omega (arith, o.from) in
             shows-iff
             (gives_more x things m.0 m.1)
-            ((g.hit (notes + i) (omega (arith, o.from)) (omega (arith, o.below))).gains (λ r. some (gives X i r) things) m.0 (given m.0 x m.1 ∙ ap (role_of x) l) h)
+            ((g.hit i o.from o.below).gains (λ r. some (gives X i r) things) m.0 (given m.0 x m.1) h)
         | inr o ↦
             shows-iff
             (gives_none x things o)
-            (subst (Shows (λ (r : Role). some (gives X i r) things ≡ true)) (sym (g.kept.outside (notes + i) (λ a b. o (record { from = omega arith; below = omega arith })))) h)
+            (subst (Shows (λ (r : Role). some (gives X i r) things ≡ true)) (sym (g.kept.outside i (λ a b. o (record { from = a; below = b })))) h)
       ]

@@ -1,7 +1,7 @@
 -- One note a stack word, in the work words from `notes` on, says which roles the word has: 0 for none, the role's number for one, and for
 -- two or more whether a frame's CL is among them. Assumes nothing.
-use Rattle.std.specs.Prelude.{ℕ, ◌+◌, ◌<◌, ◌≤◌, ◌≡◌, ◌≢◌, ◌⊎◌, ◌↔◌, Bool, true, List, length, take, drop, leb}
-use Rattle.machine.specs.Layout.{Image, fixed, none}
+use Rattle.std.specs.Prelude.{ℕ, ◌+◌, ◌<◌, ◌≤◌, ◌≡◌, ◌≢◌, ◌⊎◌, ◌↔◌, Bool, true, List, length, take, drop, leb, Result, IfOk, IfErr}
+use Rattle.machine.specs.Layout.{Image, fixed}
 use Rattle.machine.specs.Chains.{whole, broken, walk, fault_of}
 use Rattle.machine.specs.Roles.{Role, CL, has, code_of, note_at}
 
@@ -28,10 +28,10 @@ pub record Blank (control stack work : List ℕ) (notes : ℕ) : Type 0 where
   pub room : notes + length stack ≤ length work
   pub zero : (i : ℕ) → i < length stack → note_at work notes i ≡ 0
 
--- a walk notes all roles of a whole image and answers `none`; of any other it answers where the first fault is. It writes nothing but notes.
-pub record Walks (X : Image) (work : List ℕ) (notes r : ℕ) (work' : List ℕ) : Type 0 where
-  pub noted : r ≡ none → (fault_of X (walk X) ≡ whole) × ((i : ℕ) → i < length X.stack → Shows (λ (role : Role). has X i role ≡ true) (note_at work' notes i))
-  pub stopped : r ≢ none → fault_of X (walk X) ≡ broken r
+-- a walk notes all roles of a whole image; of any other it answers where the first fault is. It writes nothing but notes.
+pub record Walks (X : Image) (work : List ℕ) (notes : ℕ) (r : Result Unit ℕ) (work' : List ℕ) : Type 0 where
+  pub noted : IfOk r (λ _. (fault_of X (walk X) ≡ whole) × ((i : ℕ) → i < length X.stack → Shows (λ (role : Role). has X i role ≡ true) (note_at work' notes i)))
+  pub stopped : IfErr r (λ i. fault_of X (walk X) ≡ broken i)
   pub before : take notes work' ≡ take notes work
   pub after : drop (notes + length X.stack) work' ≡ drop (notes + length X.stack) work
   pub same : length work' ≡ length work

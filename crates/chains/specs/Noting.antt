@@ -1,9 +1,10 @@
--- What the inner functions do to the notes: words gain roles, and the notes are always those of a list of things, each of them real and
--- sound, such that what they lead to is among them or due. Assumes nothing.
-use Rattle.std.specs.Prelude.{ℕ, zero, suc, ◌+◌, ◌-◌, ◌<◌, ◌≤◌, ◌≡◌, ◌≢◌, ◌⊎◌, ◌↔◌, Bool, true, false, List, [], ◌∷◌, length, get_or, ltb}
+-- What the inner functions do to the notes, which are a list of their own here, with the note of the word i at i: words gain roles, and
+-- the notes are always those of a list of things, each of them real and sound, such that what they lead to is among them or due. Assumes
+-- nothing.
+use Rattle.std.specs.Prelude.{ℕ, zero, suc, ◌+◌, ◌-◌, ◌<◌, ◌≤◌, ◌≡◌, ◌≢◌, ◌⊎◌, ◌↔◌, Bool, true, false, List, [], ◌∷◌, length, get_or, ltb, Result, IfOk, IfErr}
 use Rattle.machine.specs.Layout.{Image, P, L, E, B, T, H, fixed, none, reg, at, size_of, frame_fixed, size_at, link_at}
 use Rattle.machine.specs.Chains.{Thing, frame, point, index_of, Fault, whole, broken}
-use Rattle.machine.specs.Roles.{Role, cell, CL, CE, own, gives, some, code_of, note_at}
+use Rattle.machine.specs.Roles.{Role, cell, CL, CE, own, gives, some, code_of}
 use Rattle.machine.proofs.Lists.{In}
 use Rattle.machine.proofs.Links.{Next, Real, Ok}
 use Rattle.chains.specs.Notes.{Shows}
@@ -40,11 +41,11 @@ abbrev pub point_role : ℕ → ℕ
 point_role j = field_or_cell (ltb j fixed) j
 
 -- the words of the frame at e with k cells, of the choice point at b with n saved arguments, gain their roles
-abbrev pub FrameNoted : ℕ → ℕ → ℕ → List ℕ → List ℕ → Type 0
-FrameNoted notes e k = Gains (λ j. frame_role (j - (notes + e))) (notes + e) (notes + (e + frame_fixed + k))
+abbrev pub FrameNoted : ℕ → ℕ → List ℕ → List ℕ → Type 0
+FrameNoted e k = Gains (λ j. frame_role (j - e)) e (e + frame_fixed + k)
 
-abbrev pub PointNoted : ℕ → ℕ → ℕ → List ℕ → List ℕ → Type 0
-PointNoted notes b n = Gains (λ j. point_role (j - (notes + b))) (notes + b) (notes + (b + fixed + n))
+abbrev pub PointNoted : ℕ → ℕ → List ℕ → List ℕ → Type 0
+PointNoted b n = Gains (λ j. point_role (j - b)) b (b + fixed + n)
 
 -- what the registers and these things lead to
 pub data Leads (X : Image) (things : List Thing) : Thing → Type 0 where
@@ -58,9 +59,9 @@ behind [] = []
 behind (x ∷ xs) = xs
 
 -- the notes are those of some real and sound things; what these lead to is among them, or due, a frame being due first
-pub record Noting (X : Image) (due : List Thing) (notes : ℕ) (work : List ℕ) : Type 0 where
+pub record Noting (X : Image) (due : List Thing) (notes : List ℕ) : Type 0 where
   pub things : List Thing
-  pub shown : (i : ℕ) → i < length X.stack → Shows (λ (r : Role). some (gives X i r) things ≡ true) (note_at work notes i)
+  pub shown : (i : ℕ) → i < length X.stack → Shows (λ (r : Role). some (gives X i r) things ≡ true) (get_or notes i 0)
   pub real : (x : Thing) → In x things → Real X x
   pub ok : (x : Thing) → In x things → Ok X x
   pub real_due : (x : Thing) → In x due → index_of x ≢ none → Real X x
@@ -79,12 +80,16 @@ pub data FaultFrom (X : Image) : Thing → Fault → Type 0 where
   older : {b limit t h : ℕ} {f : Fault} → b ≢ none → Ok X (point b limit t h) → FaultFrom X (frame (at X b E) (size_of (at X b L)) b) whole
       → FaultFrom X (point (at X b B) b (at X b T) (at X b H)) f → FaultFrom X (point b limit t h) f
 
--- a thing that was due is noted with all that it leads to, and none of that is at fault; or the first at fault is answered
-pub record Settles (X : Image) (x : Thing) (notes : ℕ) (work : List ℕ) (r : ℕ) (work' : List ℕ) : Type 0 where
-  pub noted : (rest : List Thing) → Noting X (x ∷ rest) notes work → r ≡ none → Noting X rest notes work' × FaultFrom X x whole
-  pub stopped : (rest : List Thing) → Noting X (x ∷ rest) notes work → r ≢ none → FaultFrom X x (broken r)
+-- the control area's frame and choice point
+abbrev pub first_frame : Image → Thing
+first_frame X = frame (reg X E) (size_of (reg X L)) (length X.stack)
 
--- what the walk of a chain from x does, for every image with this stack
-pub record Walked (stack : List ℕ) (notes : ℕ) (x : Thing) (work : List ℕ) (r : ℕ) (work' : List ℕ) : Type 0 where
-  pub kept : Kept notes (notes + length stack) work work'
-  pub settled : (X : Image) → X.stack ≡ stack → Settles X x notes work r work'
+abbrev pub first_point : Image → Thing
+first_point X = point (reg X B) (length X.stack) (reg X T) (reg X H)
+
+-- what the walk of a chain from x does: where x was due it is noted with all that it leads to, and none of that is at fault; or the first at
+-- fault is answered
+pub record Walked (X : Image) (x : Thing) (notes : List ℕ) (r : Result Unit ℕ) (notes' : List ℕ) : Type 0 where
+  pub kept : Kept 0 (length X.stack) notes notes'
+  pub noted : (rest : List Thing) → Noting X (x ∷ rest) notes → IfOk r (λ _. Noting X rest notes' × FaultFrom X x whole)
+  pub stopped : (rest : List Thing) → Noting X (x ∷ rest) notes → IfErr r (λ i. FaultFrom X x (broken i))

@@ -11,7 +11,7 @@ use borrow.Author.Tests.{eq-eqb, eqb-true}
 use lib.ListN.{length, get_or}
 use Rattle.cell.specs.Word.{stack_base}
 use Rattle.machine.specs.Layout.{Image, Field, P, L, E, B, T, H, N, place_of, fixed, reg}
-use Rattle.machine.specs.Roles.{Role, cell, CL, CE, own, code_of, note_at}
+use Rattle.machine.specs.Roles.{Role, cell, CL, CE, own, code_of}
 use Rattle.machine.specs.Reached.{Reached}
 use Rattle.machine.specs.Moved.{below, move_word, each, move_control, move_stack, Keeps, heap_cell, stack_cell}
 use Rattle.machine.proofs.Layouts.{reg-word, place-field, field_at}
@@ -19,53 +19,53 @@ use Rattle.machine.proofs.Roles.{has-is, linked-has, code-range}
 use Rattle.machine.proofs.Each.{length-each, each_at, each-is, each_same}
 use Rattle.machine.proofs.Moves.{fate_of, fated, stack-none, stack-role, control-field, control-saved, control-past}
 use Rattle.machine.proofs.Accepted.{Accepted, Entry, on_heap, on_stack}
-use Rattle.chains.specs.Notes.{Noted}
 use Rattle.slide.specs.Slides.{keeps_entry, entries_of, move_t, move_cell, move_control_word}
 use Rattle.slide.proofs.Entries.{keeps-heap, keeps-stack}
+use Rattle.collect.proofs.Sliding.{Notes}
 use Rattle.slide.proofs.Words.{move-cell, move-boundary, move-other, control-T, control-H, control-argument, control-low, control-high, move_t-field, move_t-other}
 
-module _ {X : Image} (a : Accepted X) (cells : ℕ → Bool) (exact : (x : ℕ) → x < reg X H → (cells x ≡ true) ↔ Reached X x) {work : List ℕ} (noted : Noted X work (length X.heap)) where
+module _ {X : Image} (a : Accepted X) (cells : ℕ → Bool) (exact : (x : ℕ) → x < reg X H → (cells x ≡ true) ↔ Reached X x) {notes : List ℕ} (noted : Notes X notes) where
   -- ---- the entries
 
-  kept-is : (e : ℕ) → Entry X e → keeps_entry cells work (length X.heap) e ≡ true → Keeps X e
-  kept-is e (on_heap l m) q = heap_cell l ((exact e m).0 (sym (keeps-heap cells work (length X.heap) e l) ∙ q))
-  kept-is e (on_stack l m f) q = stack_cell l ((noted.role (e - stack_base) m cell).0 (eqb-true _ _ (sym (keeps-stack cells work (length X.heap) e l) ∙ q)))
+  kept-is : (e : ℕ) → Entry X e → keeps_entry cells notes e ≡ true → Keeps X e
+  kept-is e (on_heap l m) q = heap_cell l ((exact e m).0 (sym (keeps-heap cells notes e l) ∙ q))
+  kept-is e (on_stack l m f) q = stack_cell l ((noted.role (e - stack_base) m cell).0 (eqb-true _ _ (sym (keeps-stack cells notes e l) ∙ q)))
 
-  is-kept : (e : ℕ) → Entry X e → Keeps X e → keeps_entry cells work (length X.heap) e ≡ true
-  is-kept e (on_heap l m) (heap_cell k r) = keeps-heap cells work (length X.heap) e l ∙ (exact e m).1 r
+  is-kept : (e : ℕ) → Entry X e → Keeps X e → keeps_entry cells notes e ≡ true
+  is-kept e (on_heap l m) (heap_cell k r) = keeps-heap cells notes e l ∙ (exact e m).1 r
   is-kept e (on_heap l m) (stack_cell k r) = absurd (omega arith)
   is-kept e (on_stack l m f) (heap_cell k r) = absurd (omega arith)
-  is-kept e (on_stack l m f) (stack_cell k r) = keeps-stack cells work (length X.heap) e l ∙ eq-eqb _ _ ((noted.role (e - stack_base) m cell).1 r)
+  is-kept e (on_stack l m f) (stack_cell k r) = keeps-stack cells notes e l ∙ eq-eqb _ _ ((noted.role (e - stack_base) m cell).1 r)
 
-  pub exact-entries : (i : ℕ) → i < reg X T → (entries_of cells work (length X.heap) X.trail i ≡ true) ↔ Keeps X (get_or X.trail i 0)
+  pub exact-entries : (i : ℕ) → i < reg X T → (entries_of cells notes X.trail i ≡ true) ↔ Keeps X (get_or X.trail i 0)
   exact-entries i l = (kept-is (get_or X.trail i 0) (a.trail i l), is-kept (get_or X.trail i 0) (a.trail i l))
 
   -- ---- the stack
 
   module _ (entries : ℕ → Bool) where
     both : ℕ → ℕ → ℕ
-    both i w = move_cell cells work (length X.heap) i (move_t entries work (length X.heap) i w)
+    both i w = move_cell cells notes i (move_t entries notes i w)
 
     -- a word whose note is none of the three stays
-    by-other : (i w : ℕ) → note_at work (length X.heap) i ≢ code_of cell → note_at work (length X.heap) i ≢ code_of (own T) → note_at work (length X.heap) i ≢ code_of (own H) → both i w ≡ w
+    by-other : (i w : ℕ) → get_or notes i 0 ≢ code_of cell → get_or notes i 0 ≢ code_of (own T) → get_or notes i 0 ≢ code_of (own H) → both i w ≡ w
     unfolding both
     by-other i w n m k =
-        ap (move_cell cells work (length X.heap) i) (move_t-other entries work (length X.heap) i w m)
-        ∙ move-other cells work (length X.heap) i w n k
+        ap (move_cell cells notes i) (move_t-other entries notes i w m)
+        ∙ move-other cells _ w n k
 
-    by-role : (i w : ℕ) (r : Role) → note_at work (length X.heap) i ≡ code_of r → both i w ≡ fated (below cells) (below entries) (fate_of r) w
+    by-role : (i w : ℕ) (r : Role) → get_or notes i 0 ≡ code_of r → both i w ≡ fated (below cells) (below entries) (fate_of r) w
     unfolding both
     by-role i w cell e =
-        ap (move_cell cells work (length X.heap) i) (move_t-other entries work (length X.heap) i w (λ q. omega (arith, e, q)))
-        ∙ move-cell cells work (length X.heap) i w e
+        ap (move_cell cells notes i) (move_t-other entries notes i w (λ q. omega (arith, e, q)))
+        ∙ move-cell cells _ w e
     by-role i w CL e = by-other i w (λ q. omega (arith, e, q)) (λ q. omega (arith, e, q)) (λ q. omega (arith, e, q))
     by-role i w CE e = by-other i w (λ q. omega (arith, e, q)) (λ q. omega (arith, e, q)) (λ q. omega (arith, e, q))
     by-role i w (own T) e =
-        ap (move_cell cells work (length X.heap) i) (move_t-field entries work (length X.heap) i w e)
-        ∙ move-other cells work (length X.heap) i (below entries w) (λ q. omega (arith, e, q)) (λ q. omega (arith, e, q))
+        ap (move_cell cells notes i) (move_t-field entries notes i w e)
+        ∙ move-other cells _ (below entries w) (λ q. omega (arith, e, q)) (λ q. omega (arith, e, q))
     by-role i w (own H) e =
-        ap (move_cell cells work (length X.heap) i) (move_t-other entries work (length X.heap) i w (λ q. omega (arith, e, q)))
-        ∙ move-boundary cells work (length X.heap) i w e
+        ap (move_cell cells notes i) (move_t-other entries notes i w (λ q. omega (arith, e, q)))
+        ∙ move-boundary cells _ w e
     by-role i w (own P) e = by-other i w (λ q. omega (arith, e, q)) (λ q. omega (arith, e, q)) (λ q. omega (arith, e, q))
     by-role i w (own L) e = by-other i w (λ q. omega (arith, e, q)) (λ q. omega (arith, e, q)) (λ q. omega (arith, e, q))
     by-role i w (own E) e = by-other i w (λ q. omega (arith, e, q)) (λ q. omega (arith, e, q)) (λ q. omega (arith, e, q))
@@ -81,11 +81,11 @@ module _ {X : Image} (a : Accepted X) (cells : ℕ → Bool) (exact : (x : ℕ) 
         (λ q. by-role i w q.0 q.1 ∙ sym (stack-role cells entries X a.linked a.apart i w q.0 (has-is X i q.0 ((noted.role i l q.0).0 q.1))))
         (noted.known i l)
 
-    pub stack-joined : each (move_cell cells work (length X.heap)) 0 (each (move_t entries work (length X.heap)) 0 X.stack) ≡ each (move_stack cells entries X) 0 X.stack
+    pub stack-joined : each (move_cell cells notes) 0 (each (move_t entries notes) 0 X.stack) ≡ each (move_stack cells entries X) 0 X.stack
     unfolding both
     stack-joined =
-        let f = move_cell cells work (length X.heap) in
-        let g = move_t entries work (length X.heap) in
+        let f = move_cell cells notes in
+        let g = move_t entries notes in
         let same = length-each g 0 X.stack in
         each-is (move_stack cells entries X) X.stack (each f 0 (each g 0 X.stack)) (length-each f 0 (each g 0 X.stack) ∙ same)
         (λ i l. each_at f (each g 0 X.stack) i (omega (arith, same)) ∙ ap (f i) (each_at g X.stack i l) ∙ is-moved i (get_or X.stack i 0) l)

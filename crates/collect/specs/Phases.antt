@@ -1,4 +1,5 @@
 -- What stands between the phases of a collection: after the image is admitted, and after its reached cells are counted. Assumes nothing.
+use Rattle.std.specs.Prelude.{Ok}
 use Rattle.std.specs.Prelude.{ℕ, ◌≤◌, ◌<◌, ◌≡◌, ◌↔◌, Bool, true, List, length, get_or, drop}
 use Rattle.machine.specs.Layout.{Image, H, reg}
 use Rattle.machine.specs.Refusals.{work_words}
@@ -36,4 +37,4 @@ pub record Reaches (X : Image) (work work' : List ℕ) (n : ℕ) : Type 0 where
 -- the areas are those of a collection, and the answer counts what it kept and dropped
 pub record Closes (X Y : Image) (r : Collected) : Type 0 where
   pub to : CollectedTo X Y
-  pub answer : answer_of r ≡ counted to.cells to.entries X
+  pub answer : answer_of (Ok r) ≡ counted to.cells to.entries X

@@ -1,22 +1,19 @@
 // The collection: admitted, marked, slid, and the work words cleared.
 #![tactic(auto)]
 
-ghost use Rattle.std.specs.Prelude.{List, ℕ};
 ghost use Rattle.machine.specs.Answers.{Collects};
-ghost use Rattle.mark.specs.Marks.{Markable};
+ghost use Rattle.machine.specs.Lent.{seen};
 ghost use Rattle.collect.specs.Phases.{Reachable, Reaches, Slidable, Closes};
 
-use cells::Checked;
-use machine::{Collected, Counts, H, T};
+use machine::{Collected, Counts, H, Refusal, T, View};
 
 // Marks what is reached and turns the marks into counts; answers how many cells are kept.
-fn reach(control: &[u32], stack: &[u32], heap: &[u32], work: &mut [u32]) -> u32
-    requires { Markable control.now stack.now heap.now work.old }
-    ensures { (trail : List ℕ) → Reachable (record { control = control.now; stack = stack.now; heap = heap.now; trail = trail }) work.old
-        → Reaches (record { control = control.now; stack = stack.now; heap = heap.now; trail = trail }) work.old work.new result }
+fn reach(view: View<'_>, work: &mut [u32]) -> u32
+    requires { Reachable (seen view) work.old }
+    ensures { Reaches (seen view.entry) work.old work.new result }
 {
-    mark::mark(control, stack, heap, work);
-    counts::count(work, control[H] as usize)
+    mark::mark(view, work);
+    counts::count(work, view.control[H] as usize)
 }
 
 // Slides every area of an admitted image by the counts.
@@ -34,11 +31,12 @@ fn close_up(
 {
     let top = control[H] as usize;
     let t = control[T] as usize;
-    let notes = heap.len();
-    let kept = slide::slide_trail(trail, stack, work, notes, top, t);
-    slide::slide_stack(stack, work, notes, top, total);
-    slide::slide_control(control, work, top, total, kept as u32);
-    slide::slide_heap(heap, work, top);
+    let (front, notes) = work.split_at(heap.len());
+    let counts = &front[..top];
+    let kept = slide::slide_trail(trail, stack, counts, notes, t);
+    slide::slide_stack(stack, counts, notes, total);
+    slide::slide_control(control, counts, total, kept as u32);
+    slide::slide_heap(heap, counts);
     let cells = Counts {
         kept: total as usize,
         dropped: top - total as usize,
@@ -47,7 +45,7 @@ fn close_up(
         kept,
         dropped: t - kept,
     };
-    Collected::Done { cells, entries }
+    Collected { cells, entries }
 }
 
 // Collects: exactly the reached cells stay, and every reference and boundary follows them.
@@ -57,17 +55,20 @@ pub fn collect(
     heap: &mut [u32],
     trail: &mut [u32],
     work: &mut [u32],
-) -> Collected
+) -> Result<Collected, Refusal>
     ensures { Collects (record { control = control.old; stack = stack.old; heap = heap.old; trail = trail.old })
         work.old result (record { control = control.new; stack = stack.new; heap = heap.new; trail = trail.new }) work.new }
 {
-    let checked = admit::admit(control, stack, heap, trail, work);
-    if let Checked::Refused(refusal) = checked {
-        return Collected::Refused(refusal);
-    }
     let words = heap.len() + stack.len();
-    let total = reach(control, stack, heap, work);
+    let view = View {
+        control,
+        stack,
+        heap,
+        trail,
+    };
+    admit::admit(view, work)?;
+    let total = reach(view, work);
     let done = close_up(control, stack, heap, trail, work, total);
     counts::clear(work, 0, words);
-    done
+    Ok(done)
 }

@@ -1,19 +1,19 @@
 -- Marks become counts one after the other, in place; what a count says of its cell. Assumes nothing.
 use Prim.Native.Nat.{ℕ, ◌+◌, ◌*◌, ◌/◌, ◌%◌, ◌≤◌, ◌<◌}
-use mathlib.Core.Path.{◌≡◌, sym, ◌∙◌}
-use mathlib.Core.Logic.{◌≢◌, inl, inr}
+use mathlib.Core.Path.{◌≡◌, sym, ap, ◌∙◌}
+use mathlib.Core.Logic.{inl, inr}
 use mathlib.Core.Bool.{Bool}
-use mathlib.Core.List.{List}
+use mathlib.Core.List.{List, ◌++◌}
 use native.Mathlib.Omega.{arith}
-use borrow.Author.Tests.{lt-ltb, le-ltb, eq-eqb, ne_eqb}
-use lib.ListN.{length, get_or, set}
-use lib.Dec.{eqb}
+use borrow.Author.Tests.{eq-eqb, ne_eqb}
+use lib.ListN.{length, get_or, take, drop, set, length-append, length-take, length-drop, get_or-append}
+use lib.Seq.{get_or-take, drop-append_seam}
+use lib.Dec.{ltb, eqb}
 use Rattle.cell.specs.Word.{pick}
 use Rattle.machine.specs.Layout.{heap_most}
 use Rattle.machine.specs.Moved.{below}
 use Rattle.machine.proofs.Tests.{either}
-use Rattle.machine.proofs.Below.{below-zero, below-le, below_step}
-use Rattle.machine.proofs.Parts.{rest-same}
+use Rattle.machine.proofs.Below.{below-zero, below-le, below_step, below-same}
 use Rattle.machine.proofs.InPlace.{InPlace, in-place-none, in-place-more}
 use Rattle.counts.specs.Counts.{marked_in, Counting, Counted, Low}
 
@@ -35,20 +35,20 @@ turn_more {marks} {work} {d} {x} t l k e = record {
   words = in-place-more (Becomes marks) t.words l (d * 2 + k) (omega (arith, t.total));
 }
 
-pub turn_end : {marks work : List ℕ} {d top : ℕ} → Turn marks work d top → top ≤ length marks → Counted marks top work d
-turn_end {marks} {work} {top = top} t l = record {
-  counting = record { at = λ y m. t.words.done y m (omega arith) };
-  total = t.total;
-  rest = rest-same top work marks t.words.same t.words.left;
-  same = t.words.same;
-}
-
--- a mark is counted as 1
-pub marked-one : (marks : List ℕ) (x : ℕ) → get_or marks x 0 ≢ 0 → 1 ≡ pick (marked_in marks x) 1 0
-marked-one marks x n = rw (lt-ltb 0 (get_or marks x 0) (omega arith))
-
-pub unmarked-none : (marks : List ℕ) (x : ℕ) → get_or marks x 0 ≡ 0 → 0 ≡ pick (marked_in marks x) 1 0
-unmarked-none marks x e = rw (le-ltb 0 (get_or marks x 0) (omega arith))
+-- the words below `top` are counts, so those of the whole are
+pub turn_end : {marks words : List ℕ} {d top : ℕ} → Turn (take top marks) words d top → top ≤ length marks → Counted marks top (words ++ drop top marks) d
+turn_end {marks} {words} {top = top} t l =
+    let long : length words ≡ top = omega (arith, t.words.same, length-take top marks) in
+    let agree : (x : ℕ) → x < top → marked_in (take top marks) x ≡ marked_in marks x = λ x h. ap (ltb 0) (get_or-take top marks x 0 h) in
+    let counts : (x : ℕ) → x ≤ top → below (marked_in (take top marks)) x ≡ below (marked_in marks) x = below-same _ _ top agree in
+    record {
+      counting = record {
+        at = λ y m. get_or-append words (drop top marks) 0 y (omega arith) ∙ (rw (counts y (omega arith), agree y m) at (t.words.done y m (omega (arith, length-take top marks))));
+      };
+      total = t.total ∙ counts top (omega arith);
+      rest = rw (← long) (drop-append_seam words (drop (length words) marks));
+      same = simp (length-append, length-drop) (omega arith);
+    }
 
 -- counts of a set are low
 pub counting-low : {cells : ℕ → Bool} {top : ℕ} {work : List ℕ} → Counting cells top work → top ≤ heap_most → top ≤ length work → Low top work

@@ -6,18 +6,18 @@ ghost use Rattle.machine.specs.Layout.{heap_most};
 ghost use Rattle.machine.specs.Moved.{below, move_word};
 ghost use Rattle.counts.specs.Counts.{Counting, Counted, Low, Movable};
 
+use cell::{STACK_BASE, Tag};
+
 // Puts the counts in the place of the marks below top, and answers how many cells are kept.
 pub fn count(work: &mut [u32], top: usize) -> u32
     requires { (top ≤ length work.old) × (top ≤ heap_most) }
     ensures { Counted work.old top work.new result }
 {
     let mut d = 0;
-    let mut x = 0;
-    while x < top {
-        let kept = if work[x] == 0 { 0 } else { 1 };
-        work[x] = d * 2 + kept;
+    for word in &mut work[..top] {
+        let kept = u32::from(*word > 0);
+        *word = d * 2 + kept;
         d += kept;
-        x += 1;
     }
     d
 }
@@ -28,10 +28,7 @@ pub fn boundary(work: &[u32], top: usize, total: u32, h: u32) -> u32
     ensures { (cells : ℕ → Bool) → Counting cells top work.now → total ≡ below cells top → result ≡ below cells h }
 {
     let x = h as usize;
-    if x < top {
-        return work[x] / 2;
-    }
-    total
+    if x < top { work[x] / 2 } else { total }
 }
 
 // A word with its reference moved.
@@ -39,15 +36,12 @@ pub fn moved_word(work: &[u32], top: usize, word: u32) -> u32
     requires { Low top work.now × (Movable top word) }
     ensures { (cells : ℕ → Bool) → Counting cells top work.now → result ≡ move_word (below cells) word }
 {
-    if cell::tag(word) == cell::CONST {
-        return word;
-    }
     let v = cell::value(word);
-    if v < cell::STACK_BASE {
-        let x = v as usize;
-        return cell::with_value(word, work[x] / 2);
+    match Tag::of(word) {
+        Tag::Const => word,
+        _ if v < STACK_BASE => cell::with_value(word, work[v as usize] / 2),
+        _ => word,
     }
-    word
 }
 
 // Zeros from a up to, not including, z.
@@ -55,9 +49,5 @@ pub fn clear(words: &mut [u32], a: usize, z: usize)
     requires { (a ≤ z) × (z ≤ length words.old) }
     ensures { words.new ≡ take a words.old ++ (replicate (z - a) 0 ++ drop z words.old) }
 {
-    let mut i = a;
-    while i < z {
-        words[i] = 0;
-        i += 1;
-    }
+    words[a..z].fill(0);
 }

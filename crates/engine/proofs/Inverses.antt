@@ -1,5 +1,6 @@
 -- Nothing is lost on the way to C: from the numbers of a collection or of a step back the library's answer can be read again, so no two
 -- of its answers have the same numbers; and likewise what is said of a cell that is asked for. Assumes nothing.
+use Rattle.std.specs.Prelude.{Result, Ok, Err, Option, Some, None}
 use Prim.Native.Nat.{ℕ, zero, suc}
 use mathlib.Core.Path.{◌≡◌, refl, sym, ap, ◌∙◌}
 use mathlib.Core.Logic.{◌≢◌}
@@ -8,14 +9,12 @@ use Rattle.machine.specs.declared.Area.TheVariants.{Heap, Stack, Control, Trail}
 use Rattle.machine.specs.declared.Refusal.{Refusal}
 use Rattle.machine.specs.declared.Refusal.TheVariants.{Sizes, Registers, Chain, Roles, Bits, Reference, Entry, First, NoChoicePoint, ControlShort}
 use Rattle.machine.specs.declared.Collected.{Collected}
-use Rattle.machine.specs.declared.Collected.TheVariants as collected
-use Rattle.machine.specs.declared.Stepped.{Stepped}
-use Rattle.machine.specs.declared.Stepped.TheVariants as stepping
 use Rattle.machine.specs.Refusals.{Where, nowhere, in_area, Verdict, accepted, refused}
 use Rattle.machine.specs.Answers.{verdict_of, Answer, refusal, answer_of, StepAnswer, step_answer_of}
 use Rattle.machine.proofs.Injective.{refusal-refuses, answer_of-injective, step_answer_of-injective}
-use Rattle.holder.specs.declared.Why.{Why}
-use Rattle.holder.specs.declared.Why.TheVariants as why
+use Rattle.holder.specs.declared.Held.{Held}
+use Rattle.holder.specs.declared.Untold.{Untold}
+use Rattle.holder.specs.declared.Untold.TheVariants as untold
 use Rattle.holder.specs.Answers.{Said, held, dead, refusal as refusing, said_of}
 use Rattle.engine.specs.declared.reasons.Reason.{Reason}
 use Rattle.engine.specs.declared.BikCollected.{BikCollected}
@@ -72,23 +71,23 @@ answer_by r = record {
   entries_dropped = r.entries_dropped;
 }
 
-answer-inverse : (a : Collected) → answer_by (collected_of (answer_of a)) ≡ answer_of a
+answer-inverse : (a : Result Collected Refusal) → answer_by (collected_of (answer_of a)) ≡ answer_of a
 unfolding collected_of answer_of
-answer-inverse (collected.Done cells entries) = refl
-answer-inverse (collected.Refused r) = ap refusal (verdict-inverse r)
+answer-inverse (Ok done) = refl
+answer-inverse (Err r) = ap refusal (verdict-inverse r)
 
-pub collected_of-injective : (a b : Collected) → collected_of (answer_of a) ≡ collected_of (answer_of b) → a ≡ b
+pub collected_of-injective : (a b : Result Collected Refusal) → collected_of (answer_of a) ≡ collected_of (answer_of b) → a ≡ b
 collected_of-injective a b e = answer_of-injective a b (sym (answer-inverse a) ∙ ap answer_by e ∙ answer-inverse b)
 
 abbrev step_answer_by : BikStepped → StepAnswer
 step_answer_by r = record { verdict = verdict_by (record { number = r.refusal; area = r.area; index = r.index }); undone = r.undone }
 
-step-inverse : (a : Stepped) → step_answer_by (stepped_of (step_answer_of a)) ≡ step_answer_of a
+step-inverse : (a : Result ℕ Refusal) → step_answer_by (stepped_of (step_answer_of a)) ≡ step_answer_of a
 unfolding stepped_of step_answer_of
-step-inverse (stepping.Undone n) = refl
-step-inverse (stepping.Refused r) = ap (λ (v : Verdict). record { verdict = v; undone = 0 }) (verdict-inverse r)
+step-inverse (Ok n) = refl
+step-inverse (Err r) = ap (λ (v : Verdict). record { verdict = v; undone = 0 }) (verdict-inverse r)
 
-pub stepped_of-injective : (a b : Stepped) → stepped_of (step_answer_of a) ≡ stepped_of (step_answer_of b) → a ≡ b
+pub stepped_of-injective : (a b : Result ℕ Refusal) → stepped_of (step_answer_of a) ≡ stepped_of (step_answer_of b) → a ≡ b
 stepped_of-injective a b e = step_answer_of-injective a b (sym (step-inverse a) ∙ ap step_answer_by e ∙ step-inverse b)
 
 area-inverse : (a : Area) → area_by (area_number a) ≡ a
@@ -112,14 +111,14 @@ refused-said : (v : Verdict) (r : BikHeld) → v ≢ accepted → said_as v r �
 refused-said accepted r n = absurd (n refl)
 refused-said (refused number place) r n = refl
 
-said-inverse : (a : Why) → said_by (held_of (said_of a)) ≡ said_of a
+said-inverse : (a : Result (Option Held) Untold) → said_by (held_of (said_of a)) ≡ said_of a
 unfolding held_of said_of
-said-inverse (why.Held root length) = ap (λ (a : Area). held a root.index length) (area-inverse root.area)
-said-inverse why.Dead = refl
-said-inverse why.NoCell = refl
-said-inverse why.RoomShort = refl
-said-inverse (why.Refused r) =
+said-inverse (Ok (Some h)) = ap (λ (a : Area). held a h.root.index h.length) (area-inverse h.root.area)
+said-inverse (Ok None) = refl
+said-inverse (Err untold.NoCell) = refl
+said-inverse (Err untold.RoomShort) = refl
+said-inverse (Err (untold.Image r)) =
     ap (λ (v : Verdict). said_as v (unheld (reason_of (verdict_of r)))) (verdict-inverse r) ∙ refused-said (verdict_of r) (unheld (reason_of (verdict_of r))) (refusal-refuses r)
 
-pub held_of-injective : (a b : Why) → held_of (said_of a) ≡ held_of (said_of b) → said_of a ≡ said_of b
+pub held_of-injective : (a b : Result (Option Held) Untold) → held_of (said_of a) ≡ held_of (said_of b) → said_of a ≡ said_of b
 held_of-injective a b e = sym (said-inverse a) ∙ ap said_by e ∙ said-inverse b

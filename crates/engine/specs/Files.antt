@@ -1,8 +1,9 @@
 -- What the file functions promise a caller in C: the library's promises, with each answer as numbers. Assumes nothing.
 use Rattle.std.specs.Prelude.{ℕ, ◌≡◌, List}
 use Rattle.machine.specs.Layout.{Image}
-use Rattle.freeze.specs.declared.Thawed.{Thawed}
-use Rattle.freeze.specs.declared.Frozen.{Frozen}
+use Rattle.std.specs.Prelude.{Result}
+use Rattle.freeze.specs.declared.AreaCounts.{AreaCounts}
+use Rattle.freeze.specs.declared.FileRefusal.{FileRefusal}
 use Rattle.freeze.specs.declared.Record.{Record}
 use Rattle.freeze.specs.Records.{RecordAnswer, record_answer_of, record_at}
 use Rattle.freeze.specs.Thaw.{ThawAnswer, thaw_answer_of, Thaws}
@@ -24,7 +25,7 @@ thawed_of a = record {
 
 -- What `bik_thaw` promises of every file and all lent areas: an answer that `thaw` may give with the areas at exit, and r is its numbers.
 pub record ThawsForC (file : List ℕ) (lent : Image) (r : BikThawed) (left : Image) : Type 0 where
-  pub answer : Thawed
+  pub answer : Result AreaCounts FileRefusal
   pub thaws : Thaws file lent answer left
   pub numbers : r ≡ thawed_of (thaw_answer_of answer)
 
@@ -33,7 +34,7 @@ frozen_of a = record { refusal = (file_reason_of a.verdict).number; bytes = a.by
 
 -- What `bik_freeze` promises of all areas and every lent output, in the same way.
 pub record FreezesForC (X : Image) (output : List ℕ) (r : BikFrozen) (left : List ℕ) : Type 0 where
-  pub answer : Frozen
+  pub answer : Result ℕ FileRefusal
   pub freezes : Freezes X output answer left
   pub numbers : r ≡ frozen_of (freeze_answer_of answer)
 
@@ -48,6 +49,6 @@ record_of a = record {
 
 -- What `bik_record_at` promises of every file and every offset, in the same way.
 pub record ReadsForC (file : List ℕ) (offset : ℕ) (r : BikRecord) : Type 0 where
-  pub answer : Record
+  pub answer : Result Record FileRefusal
   pub reads : record_answer_of answer ≡ record_at file offset
   pub numbers : r ≡ record_of (record_answer_of answer)

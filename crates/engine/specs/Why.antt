@@ -2,7 +2,9 @@
 use Rattle.std.specs.Prelude.{ℕ, ◌≡◌, List}
 use Rattle.machine.specs.Layout.{Image}
 use Rattle.machine.specs.Refusals.{accepted}
-use Rattle.holder.specs.declared.Why.{Why}
+use Rattle.std.specs.Prelude.{Result, Option}
+use Rattle.holder.specs.declared.Held.{Held}
+use Rattle.holder.specs.declared.Untold.{Untold}
 use Rattle.holder.specs.Answers.{Said, held, dead, refusal, said_of, Explains}
 use Rattle.engine.specs.declared.reasons.Reason.{Reason}
 use Rattle.engine.specs.declared.BikHeld.{BikHeld}
@@ -36,6 +38,6 @@ held_of (refusal v) = unheld (reason_of v)
 -- What `bik_why_held` promises of every image X, lent work, cell x and lent room: an answer that `why_held` may give with the work words
 -- and the room at exit, and r is its numbers.
 pub record ExplainsForC (X : Image) (work : List ℕ) (x : ℕ) (room : List ℕ) (r : BikHeld) (work' room' : List ℕ) : Type 0 where
-  pub answer : Why
+  pub answer : Result (Option Held) Untold
   pub explains : Explains X work x room answer work' room'
   pub numbers : r ≡ held_of (said_of answer)

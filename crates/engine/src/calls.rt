@@ -3,34 +3,30 @@ ghost use Rattle.std.specs.Prelude.{◌≡◌};
 ghost use Rattle.machine.specs.Answers.{answer_of, step_answer_of};
 ghost use Rattle.engine.specs.Calls.{collected_of, CollectsForC, stepped_of, StepsBackForC};
 
-use crate::reasons::reason_of;
+use crate::reasons::Reason;
 use crate::{BikCollected, BikStepped};
-use machine::{Collected, Stepped};
+use machine::{Collected, Refusal};
 
 // The answer of a collection as a struct of numbers.
-fn collected(answer: Collected) -> BikCollected
+#[tactic(auto, unfolding(crate::specs::Calls::collected_of, machine::specs::Answers::answer_of))]
+fn collected(answer: Result<Collected, Refusal>) -> BikCollected
     ensures { result ≡ collected_of (answer_of answer) }
 {
     match answer {
-        Collected::Done { cells, entries } => BikCollected {
-            refusal: 0,
-            area: 0,
-            index: 0,
+        Ok(Collected { cells, entries }) => BikCollected {
             cells_kept: cells.kept as u64,
             cells_dropped: cells.dropped as u64,
             entries_kept: entries.kept as u64,
             entries_dropped: entries.dropped as u64,
+            ..BikCollected::default()
         },
-        Collected::Refused(refusal) => {
-            let why = reason_of(refusal);
+        Err(refusal) => {
+            let why = Reason::from(refusal);
             BikCollected {
                 refusal: why.number,
                 area: why.area,
                 index: why.index,
-                cells_kept: 0,
-                cells_dropped: 0,
-                entries_kept: 0,
-                entries_dropped: 0,
+                ..BikCollected::default()
             }
         }
     }
@@ -51,23 +47,22 @@ pub fn bik_collect(
 }
 
 // The answer of a step back as a struct of numbers.
-fn stepped(answer: Stepped) -> BikStepped
+#[tactic(auto, unfolding(crate::specs::Calls::stepped_of, machine::specs::Answers::step_answer_of))]
+fn stepped(answer: Result<usize, Refusal>) -> BikStepped
     ensures { result ≡ stepped_of (step_answer_of answer) }
 {
     match answer {
-        Stepped::Undone(undone) => BikStepped {
-            refusal: 0,
-            area: 0,
-            index: 0,
+        Ok(undone) => BikStepped {
             undone: undone as u64,
+            ..BikStepped::default()
         },
-        Stepped::Refused(refusal) => {
-            let why = reason_of(refusal);
+        Err(refusal) => {
+            let why = Reason::from(refusal);
             BikStepped {
                 refusal: why.number,
                 area: why.area,
                 index: why.index,
-                undone: 0,
+                ..BikStepped::default()
             }
         }
     }

@@ -5,32 +5,30 @@ ghost use Rattle.freeze.specs.Thaw.{image_of, thaw_answer_of};
 ghost use Rattle.freeze.specs.Freeze.{freeze_answer_of};
 ghost use Rattle.engine.specs.Files.{thawed_of, frozen_of, record_of, ThawsForC, FreezesForC, ReadsForC};
 
-use crate::reasons::file_reason_of;
+use crate::reasons::FileReason;
 use crate::{BikFrozen, BikRecord, BikThawed};
-use freeze::{Frozen, Record, Thawed};
+use freeze::{AreaCounts, FileRefusal, Record};
+use machine::View;
 
 // The answer of the reader as a struct of numbers.
-fn thawed(answer: Thawed) -> BikThawed
+#[tactic(auto, unfolding(crate::specs::Files::thawed_of, freeze::specs::Thaw::thaw_answer_of))]
+fn thawed(answer: Result<AreaCounts, FileRefusal>) -> BikThawed
     ensures { result ≡ thawed_of (thaw_answer_of answer) }
 {
     match answer {
-        Thawed::Areas(counts) => BikThawed {
-            refusal: 0,
-            offset: 0,
+        Ok(counts) => BikThawed {
             control: counts.control as u64,
             stack: counts.stack as u64,
             heap: counts.heap as u64,
             trail: counts.trail as u64,
+            ..BikThawed::default()
         },
-        Thawed::Refused(refusal) => {
-            let why = file_reason_of(refusal);
+        Err(refusal) => {
+            let why = FileReason::from(refusal);
             BikThawed {
                 refusal: why.number,
                 offset: why.offset,
-                control: 0,
-                stack: 0,
-                heap: 0,
-                trail: 0,
+                ..BikThawed::default()
             }
         }
     }
@@ -50,21 +48,19 @@ pub fn bik_thaw(
 }
 
 // The answer of the writer as a struct of numbers.
-fn frozen(answer: Frozen) -> BikFrozen
+#[tactic(auto, unfolding(crate::specs::Files::frozen_of, freeze::specs::Freeze::freeze_answer_of))]
+fn frozen(answer: Result<usize, FileRefusal>) -> BikFrozen
     ensures { result ≡ frozen_of (freeze_answer_of answer) }
 {
     match answer {
-        Frozen::Bytes(bytes) => BikFrozen {
+        Ok(bytes) => BikFrozen {
             refusal: 0,
             bytes: bytes as u64,
         },
-        Frozen::Refused(refusal) => {
-            let why = file_reason_of(refusal);
-            BikFrozen {
-                refusal: why.number,
-                bytes: 0,
-            }
-        }
+        Err(refusal) => BikFrozen {
+            refusal: FileReason::from(refusal).number,
+            bytes: 0,
+        },
     }
 }
 
@@ -78,29 +74,33 @@ pub fn bik_freeze(
 ) -> BikFrozen
     ensures { FreezesForC (image_of control.now stack.now heap.now trail.now) output.old result output.new }
 {
-    frozen(freeze::freeze(control, stack, heap, trail, output))
+    let view = View {
+        control,
+        stack,
+        heap,
+        trail,
+    };
+    frozen(freeze::freeze(view, output))
 }
 
 // The answer of the record reader as a struct of numbers.
-fn record_read(answer: Record) -> BikRecord
+#[tactic(auto, unfolding(crate::specs::Files::record_of, freeze::specs::Records::record_answer_of))]
+fn record_read(answer: Result<Record, FileRefusal>) -> BikRecord
     ensures { result ≡ record_of (record_answer_of answer) }
 {
     match answer {
-        Record::Whole { kind, body, next } => BikRecord {
-            refusal: 0,
-            offset: 0,
-            kind: kind as u32,
-            body: body as u64,
-            next: next as u64,
+        Ok(record) => BikRecord {
+            kind: record.kind as u32,
+            body: record.body as u64,
+            next: record.next as u64,
+            ..BikRecord::default()
         },
-        Record::Refused(refusal) => {
-            let why = file_reason_of(refusal);
+        Err(refusal) => {
+            let why = FileReason::from(refusal);
             BikRecord {
                 refusal: why.number,
                 offset: why.offset,
-                kind: 0,
-                body: 0,
-                next: 0,
+                ..BikRecord::default()
             }
         }
     }

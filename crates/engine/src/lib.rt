@@ -15,7 +15,7 @@ pub use why::bik_why_held;
 
 // What a collection answers.
 #[repr(C)]
-#[derive(Clone, Copy)]
+#[derive(Clone, Copy, Default)]
 pub struct BikCollected {
     pub refusal: u32,
     pub area: u32,
@@ -28,7 +28,7 @@ pub struct BikCollected {
 
 // What a step back answers.
 #[repr(C)]
-#[derive(Clone, Copy)]
+#[derive(Clone, Copy, Default)]
 pub struct BikStepped {
     pub refusal: u32,
     pub area: u32,
@@ -38,7 +38,7 @@ pub struct BikStepped {
 
 // Why a heap cell is held.
 #[repr(C)]
-#[derive(Clone, Copy)]
+#[derive(Clone, Copy, Default)]
 pub struct BikHeld {
     pub refusal: u32,
     pub area: u32,
@@ -51,7 +51,7 @@ pub struct BikHeld {
 
 // The part of an area that an address names.
 #[repr(C)]
-#[derive(Clone, Copy)]
+#[derive(Clone, Copy, Default)]
 pub struct BikPart {
     pub area: u32,
     pub index: u64,
@@ -60,7 +60,7 @@ pub struct BikPart {
 
 // What the reader of a freeze file answers.
 #[repr(C)]
-#[derive(Clone, Copy)]
+#[derive(Clone, Copy, Default)]
 pub struct BikThawed {
     pub refusal: u32,
     pub offset: u64,
@@ -72,7 +72,7 @@ pub struct BikThawed {
 
 // What the writer of a freeze file answers.
 #[repr(C)]
-#[derive(Clone, Copy)]
+#[derive(Clone, Copy, Default)]
 pub struct BikFrozen {
     pub refusal: u32,
     pub bytes: u64,
@@ -80,7 +80,7 @@ pub struct BikFrozen {
 
 // One record of a freeze file.
 #[repr(C)]
-#[derive(Clone, Copy)]
+#[derive(Clone, Copy, Default)]
 pub struct BikRecord {
     pub refusal: u32,
     pub offset: u64,

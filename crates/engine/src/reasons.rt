@@ -2,7 +2,7 @@
 ghost use Rattle.std.specs.Prelude.{◌≡◌};
 ghost use Rattle.machine.specs.Refusals.{refused, nowhere};
 ghost use Rattle.machine.specs.Answers.{place_in, verdict_of};
-ghost use Rattle.freeze.specs.Verdicts.{refused as file_refused, verdict_of as file_verdict_of};
+ghost use Rattle.freeze.specs.Verdicts.{verdict_of as file_verdict_of};
 ghost use Rattle.engine.specs.Reasons.{area_number, reason_of, file_reason_of};
 
 use freeze::FileRefusal;
@@ -58,54 +58,35 @@ pub fn placeless(number: u32) -> Reason
 fn placed(number: u32, place: Place) -> Reason
     ensures { result ≡ reason_of (refused number (place_in place)) }
 {
-    let area = place.area;
     Reason {
         number,
-        area: area_number(area),
+        area: area_number(place.area),
         index: place.index as u64,
     }
 }
 
 // The number of a refusal of the collector or of the step back, and its place.
-pub fn reason_of(refusal: Refusal) -> Reason
-    ensures { result ≡ reason_of (verdict_of refusal) }
-{
-    match refusal {
-        Refusal::Sizes => placeless(1),
-        Refusal::Registers => placeless(2),
-        Refusal::Chain(place) => placed(3, place),
-        Refusal::Roles(place) => placed(4, place),
-        Refusal::Bits(place) => placed(5, place),
-        Refusal::Reference(place) => placed(6, place),
-        Refusal::Entry(place) => placed(7, place),
-        Refusal::First(place) => placed(17, place),
-        Refusal::NoChoicePoint => placeless(8),
-        Refusal::ControlShort => placeless(9),
-    }
-}
+impl From<Refusal> for Reason {
+    ghost from_gives = { λ refusal r. r ≡ reason_of (verdict_of refusal) };
 
-// A refusal of a file, at an offset.
-fn at(number: u32, offset: usize) -> FileReason
-    ensures { result ≡ file_reason_of (file_refused number offset) }
-{
-    FileReason {
-        number,
-        offset: offset as u64,
+    fn from(refusal: Refusal) -> Reason {
+        let why = refusal.reason();
+        match why.place {
+            Some(place) => placed(why.number, place),
+            None => placeless(why.number),
+        }
     }
 }
 
 // The number of a refusal of the file parts, and its offset.
-pub fn file_reason_of(refusal: FileRefusal) -> FileReason
-    ensures { result ≡ file_reason_of (file_verdict_of refusal) }
-{
-    match refusal {
-        FileRefusal::Sizes => at(1, 0),
-        FileRefusal::Registers => at(2, 0),
-        FileRefusal::Cut(offset) => at(10, offset),
-        FileRefusal::Kind(offset) => at(11, offset),
-        FileRefusal::Room => at(12, 0),
-        FileRefusal::After(offset) => at(13, offset),
-        FileRefusal::Differ => at(14, 0),
-        FileRefusal::Output => at(15, 0),
+impl From<FileRefusal> for FileReason {
+    ghost from_gives = { λ refusal r. r ≡ file_reason_of (file_verdict_of refusal) };
+
+    fn from(refusal: FileRefusal) -> FileReason {
+        let why = refusal.fault();
+        FileReason {
+            number: why.number,
+            offset: why.offset as u64,
+        }
     }
 }

@@ -4,53 +4,39 @@ ghost use Rattle.holder.specs.Answers.{said_of};
 ghost use Rattle.engine.specs.Why.{unheld, held_of, ExplainsForC};
 
 use crate::BikHeld;
-use crate::reasons::{Reason, area_number, placeless, reason_of};
-use holder::Why;
+use crate::reasons::{Reason, area_number, placeless};
+use holder::{Held, Untold};
+use machine::View;
 
-// A refusal as a struct of numbers.
-fn refused(why: Reason) -> BikHeld
+// A dead cell or a refusal as a struct of numbers.
+fn unheld(why: Reason) -> BikHeld
     ensures { result ≡ unheld why }
 {
     BikHeld {
         refusal: why.number,
         area: why.area,
         index: why.index,
-        held: 0,
-        root_area: 0,
-        root_index: 0,
-        length: 0,
+        ..BikHeld::default()
     }
 }
 
 // The answer as a struct of numbers.
-fn told(answer: Why) -> BikHeld
+#[tactic(auto, unfolding(crate::specs::Why::held_of, holder::specs::Answers::said_of))]
+fn told(answer: Result<Option<Held>, Untold>) -> BikHeld
     ensures { result ≡ held_of (said_of answer) }
 {
     match answer {
-        Why::Held { root, length } => {
-            let area = root.area;
-            BikHeld {
-                refusal: 0,
-                area: 0,
-                index: 0,
-                held: 1,
-                root_area: area_number(area),
-                root_index: root.index as u64,
-                length: length as u64,
-            }
-        }
-        Why::Dead => BikHeld {
-            refusal: 0,
-            area: 0,
-            index: 0,
-            held: 0,
-            root_area: 0,
-            root_index: 0,
-            length: 0,
+        Ok(Some(Held { root, length })) => BikHeld {
+            held: 1,
+            root_area: area_number(root.area),
+            root_index: root.index as u64,
+            length: length as u64,
+            ..BikHeld::default()
         },
-        Why::NoCell => refused(placeless(18)),
-        Why::RoomShort => refused(placeless(19)),
-        Why::Refused(refusal) => refused(reason_of(refusal)),
+        Ok(None) => BikHeld::default(),
+        Err(Untold::NoCell) => unheld(placeless(18)),
+        Err(Untold::RoomShort) => unheld(placeless(19)),
+        Err(Untold::Image(refusal)) => unheld(Reason::from(refusal)),
     }
 }
 
@@ -66,5 +52,11 @@ pub fn bik_why_held(
 ) -> BikHeld
     ensures { ExplainsForC (record { control = control.now; stack = stack.now; heap = heap.now; trail = trail.now }) work.old cell room.old result work.new room.new }
 {
-    told(holder::why_held(control, stack, heap, trail, work, cell, room))
+    let view = View {
+        control,
+        stack,
+        heap,
+        trail,
+    };
+    told(holder::why_held(view, work, cell, room))
 }

@@ -13,10 +13,9 @@ use borrow.Author.Tests.{le-leb, leb-true}
 use Rattle.machine.specs.Layout.{Image, T, H, N, fixed, reg, heap_most, stack_most, trail_most, arguments_most}
 use Rattle.machine.specs.Refusals.{legal_sizes, fits}
 use Rattle.freeze.specs.declared.AreaCounts.{AreaCounts}
+use Rattle.std.specs.Prelude.{Result, Ok, Err}
 use Rattle.freeze.specs.declared.FileRefusal.{FileRefusal}
 use Rattle.freeze.specs.declared.FileRefusal.TheVariants.{Sizes, Registers, Output}
-use Rattle.freeze.specs.declared.Frozen.{Frozen}
-use Rattle.freeze.specs.declared.Frozen.TheVariants as freezing
 use Rattle.freeze.specs.Kinds.{COUNTS, CONTROL, STACK, HEAP, TRAIL, word_body, body_of, record_size, past}
 use Rattle.freeze.specs.Verdicts.{FileVerdict, accepted, verdict_of, gate, if_accepted}
 use Rattle.freeze.specs.Thaw.{counts_of, lengths_of, within, past_end, front}
@@ -119,14 +118,14 @@ module _ (X : Image) (output : List ℕ) where
       first_passes _ (gate-passes (verdict_of Sizes) e) ∙ first_passes _ (gate-passes (verdict_of Registers) f) ∙ first_passes _ (gate-passes (verdict_of Output) g)
       ∙ first-none
 
-  pub freezes-refused : (q : FileRefusal) → freeze_verdict X output ≡ verdict_of q → Freezes X output (freezing.Refused q) output
+  pub freezes-refused : (q : FileRefusal) → freeze_verdict X output ≡ verdict_of q → Freezes X output (Err q) output
   unfolding freeze_answer_of freeze_answer
   freezes-refused q e = record {
     answer = simp (e, if_accepted-refusal {A = ℕ} q);
     bytes = sym (ap (λ (v : FileVerdict). if_accepted v (front output (frozen X)) output) e ∙ if_accepted-refusal {A = List ℕ} q _ _);
   }
 
-  pub freezes-accepted : (n : ℕ) (left : List ℕ) → freeze_verdict X output ≡ accepted → n ≡ length (frozen X) → left ≡ front output (frozen X) → Freezes X output (freezing.Bytes n) left
+  pub freezes-accepted : (n : ℕ) (left : List ℕ) → freeze_verdict X output ≡ accepted → n ≡ length (frozen X) → left ≡ front output (frozen X) → Freezes X output (Ok n) left
   unfolding freeze_answer_of freeze_answer if_accepted
   freezes-accepted n left e m f = record {
     answer = rw (e, m);
@@ -134,18 +133,18 @@ module _ (X : Image) (output : List ℕ) where
   }
 
   -- an accepted answer has but one case
-  answer-bytes : (r : Frozen) → freeze_answer_of r ≡ freeze_answer accepted X → r ≡ freezing.Bytes (length (frozen X))
+  answer-bytes : (r : Result ℕ FileRefusal) → freeze_answer_of r ≡ freeze_answer accepted X → r ≡ Ok (length (frozen X))
   unfolding freeze_answer_of freeze_answer if_accepted
-  answer-bytes (freezing.Bytes n) e = ap freezing.Bytes (ap (λ (a : FreezeAnswer). a.bytes) e)
-  answer-bytes (freezing.Refused q) e = absurd (refusal-refuses q (ap (λ (a : FreezeAnswer). a.verdict) e))
+  answer-bytes (Ok n) e = ap Ok (ap (λ (a : FreezeAnswer). a.bytes) e)
+  answer-bytes (Err q) e = absurd (refusal-refuses q (ap (λ (a : FreezeAnswer). a.verdict) e))
 
-  pub freezes-written : (r : Frozen) (left : List ℕ) → Freezes X output r left → freeze_verdict X output ≡ accepted → (r ≡ freezing.Bytes (length (frozen X))) × (left ≡ front output (frozen X))
+  pub freezes-written : (r : Result ℕ FileRefusal) (left : List ℕ) → Freezes X output r left → freeze_verdict X output ≡ accepted → (r ≡ Ok (length (frozen X))) × (left ≡ front output (frozen X))
   unfolding if_accepted
   freezes-written r left f e =
       (answer-bytes r (f.answer ∙ ap (λ (v : FileVerdict). freeze_answer v X) e), f.bytes ∙ ap (λ (v : FileVerdict). if_accepted v (front output (frozen X)) output) e)
 
   -- what an answer with a byte count says
-  pub bytes-written : (n : ℕ) (left : List ℕ) → Freezes X output (freezing.Bytes n) left
+  pub bytes-written : (n : ℕ) (left : List ℕ) → Freezes X output (Ok n) left
       → (legal_sizes X ≡ true) × (fits X ≡ true) × (n ≡ length (frozen X)) × (left ≡ front output (frozen X))
   unfolding freeze_answer_of freeze_answer freeze_verdict if_accepted
   bytes-written n left f =

@@ -1,17 +1,17 @@
 -- The table of body lengths: its rule at each of its 32 entries by one test that antt computes, the mark past its end, and the length
 -- of each kind in use. Assumes nothing.
 use Prim.Native.Nat.{ℕ, ◌+◌, ◌*◌, ◌≤◌, ◌<◌}
-use mathlib.Core.Path.{◌≡◌, refl, ap, ◌∙◌}
-use mathlib.Core.Bool.{Bool}
+use mathlib.Core.Path.{◌≡◌, refl}
+use mathlib.Core.Bool.{true}
 use mathlib.Core.List.{List, [], ◌∷◌}
 use native.Mathlib.Omega.{arith}
-use lib.Dec.{eqb, eqb→eq}
+use lib.Dec.{eqb}
 use lib.ListN.{get_or}
-use borrow.Author.Tests.{ne_eqb, le-leb, lt-leb}
+use borrow.Author.Tests.{ne_eqb, le-leb, lt-leb, eqb-true}
 use Rattle.freeze.specs.declared.AreaCounts.{AreaCounts}
 use Rattle.freeze.specs.Kinds.{COUNTS, CONTROL, STACK, HEAP, TRAIL, END, UNUSED, word_body, body_of, record_size}
 use Rattle.freeze.specs.Thaw.{past_end}
-use Rattle.freeze.proofs.Table.{at}
+use Rattle.std.proofs.lemmas.Bool.{agree_below_at}
 
 abbrev pub bodies : List ℕ
 bodies =
@@ -21,13 +21,10 @@ bodies =
     ∷ UNUSED ∷ UNUSED ∷ UNUSED ∷ UNUSED ∷ UNUSED ∷ UNUSED ∷ UNUSED ∷ UNUSED
     ∷ []
 
-right : ℕ → ℕ → Bool
-right kind body = eqb body (body_of kind)
-
--- the table's rule
-pub table-rule : (kind : ℕ) → kind < 32 → get_or bodies kind 0 ≡ body_of kind
-unfolding right body_of
-table-rule kind h = eqb→eq (get_or bodies kind 0) (body_of kind) (at right bodies tt kind h)
+-- the table's rule, read with any default
+pub table-rule : (kind d : ℕ) → kind < 32 → get_or bodies kind d ≡ body_of kind
+unfolding body_of
+table-rule kind d h = eqb-true _ _ (agree_below_at (λ k. eqb (get_or bodies k d) (body_of k)) (λ k. true) 32 kind refl h)
 
 -- no kind past the table is used
 pub past-table : (kind : ℕ) → 32 ≤ kind → body_of kind ≡ UNUSED
@@ -59,10 +56,7 @@ pub end_body : body_of END ≡ 0
 unfolding body_of
 end_body = refl
 
--- the size of n words' records, and of a whole file
-pub words_size : (n size : ℕ) → size ≡ record_size CONTROL → n * size ≡ n * (1 + word_body)
-words_size n size e = ap (λ (s : ℕ). n * s) (e ∙ ap (λ (b : ℕ). 1 + b) control-word)
-
+-- the size of a whole file
 pub file-size : (n : AreaCounts) → past_end n ≡ record_size COUNTS + (n.control + n.stack + n.heap + n.trail) * (1 + word_body) + record_size END
 unfolding body_of
 file-size n = omega arith

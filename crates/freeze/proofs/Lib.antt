@@ -1,4 +1,3 @@
-pub mod Table
 pub mod KindLaws
 pub mod VerdictLaws
 pub mod RecordLaws

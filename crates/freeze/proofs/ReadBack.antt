@@ -11,9 +11,9 @@ use lib.Dec.{eqb}
 use lib.Seq.{get_or-take, length-take-le, take-append_seam}
 use borrow.Author.Tests.{le-leb, eq-eqb}
 use Rattle.machine.specs.Layout.{Image, Field, T, H, N, place_of, fixed, field, reg}
+use Rattle.std.specs.Prelude.{Ok}
 use Rattle.freeze.specs.declared.AreaCounts.{AreaCounts}
 use Rattle.freeze.specs.Kinds.{COUNTS, CONTROL, STACK, HEAP, TRAIL, END, word_body, body_of, record_size, past}
-use Rattle.freeze.specs.declared.Thawed.TheVariants as thawing
 use Rattle.freeze.specs.Verdicts.{FileVerdict, accepted, if_accepted}
 use Rattle.freeze.specs.Records.{kind_at, records_verdict, number_at, words}
 use Rattle.freeze.specs.Thaw.{counts_of, lengths_of, within, counts_in, control_at, stack_at, heap_at, trail_at, end_at, past_end, image_in, agree, thaw_verdict, thaw_answer, filled, Thaws}
@@ -155,7 +155,7 @@ written-reads-back X lent output left n r areas small f legal room t =
     let v : thaw_verdict lent (frozen X) ≡ accepted =
     legal-verdict (frozen X) lent legal
     ∙ passed-file (lengths_of lent) (frozen X) (subst (λ (m : AreaCounts). Passed (lengths_of lent) m (frozen X)) (sym same) (file-reads X small sizes w lent room)) in (
-      answer-areas (frozen X) r (t'.answer ∙ ap (λ (v : FileVerdict). thaw_answer v (frozen X)) v) ∙ ap thawing.Areas same,
+      answer-areas (frozen X) r (t'.answer ∙ ap (λ (v : FileVerdict). thaw_answer v (frozen X)) v) ∙ ap Ok same,
       t'.areas ∙ ap (λ (v : FileVerdict). if_accepted v (filled lent (image_in (counts_in (frozen X)) (frozen X))) lent) v
           ∙ ap (λ (m : AreaCounts). filled lent (image_in m (frozen X))) same ∙ ap (filled lent) (image-read X small sizes w),
     )

@@ -8,15 +8,19 @@ use native.Mathlib.Omega.{arith}
 use native.Mathlib.Nat.{suc-mul}
 use lib.ListN.{length}
 use lib.Dec.{eqb, leb}
-use borrow.Author.Tests.{le-leb, lt-leb, eq-eqb, ne_eqb, leb-true, eqb-true}
+use borrow.Author.Tests.{le-leb, lt-leb, leb-true, eqb-true}
 use Rattle.freeze.specs.declared.FileRefusal.{FileRefusal}
 use Rattle.freeze.specs.declared.FileRefusal.TheVariants.{Cut, Kind}
 use native.Mathlib.Numerals.{add-one}
-use Rattle.freeze.specs.declared.Record.TheVariants as read
-use Rattle.freeze.specs.Kinds.{pick, UNUSED, body_of, used, record_size, past}
+use Rattle.freeze.specs.Kinds.{pick, used, record_size, past}
 use Rattle.freeze.specs.Verdicts.{FileVerdict, accepted, verdict_of, or_else, if_accepted}
 use Rattle.freeze.specs.Records.{kind_at, record_verdict, record_answer_of, record_at, offset_after, records_verdict}
-use Rattle.freeze.proofs.VerdictLaws.{or_else-refusal, if_accepted-refusal, refusal-refuses}
+use Rattle.freeze.proofs.VerdictLaws.{or_else-refusal, refusal-refuses}
+
+-- all that the answers of the record reader compute with
+unfoldable pub record_answers : Unit {0}
+unfolding used verdict_of if_accepted record_verdict record_answer_of record_at offset_after
+record_answers = tt
 
 module _ (right : ℕ → Bool) (file : List ℕ) (at : ℕ) where
   pub record-missing : length file ≤ at → record_verdict right file at ≡ verdict_of (Cut (length file))
@@ -34,33 +38,6 @@ module _ (right : ℕ → Bool) (file : List ℕ) (at : ℕ) where
   pub record-whole : right (kind_at file at) ≡ true → at + record_size (kind_at file at) ≤ length file → record_verdict right file at ≡ accepted
   unfolding record_verdict
   record-whole e s = simp (lt-leb (length file) at (omega arith), e, le-leb (at + record_size (kind_at file at)) (length file) s)
-
-  -- the answer of the record reader, from the verdict
-  pub record-refused : (r : FileRefusal) → record_verdict used file at ≡ verdict_of r → record_answer_of (read.Refused r) ≡ record_at file at
-  unfolding record_answer_of record_at
-  record-refused r e = simp (e, if_accepted-refusal {A = ℕ} r)
-
-  pub record-found : (kind body next : ℕ) → kind ≡ kind_at file at → body ≡ at + 1 → next ≡ at + record_size (kind_at file at) → record_verdict used file at ≡ accepted
-      → record_answer_of (read.Whole kind body next) ≡ record_at file at
-  unfolding record_answer_of record_at if_accepted
-  record-found kind body next k b n e = rw (e, k, b, n)
-
-  -- where a reader stands afterwards, from the answer
-  pub offset-moves : (kind body next : ℕ) → record_answer_of (read.Whole kind body next) ≡ record_at file at → next ≡ offset_after file at
-  unfolding offset_after record_answer_of if_accepted
-  offset-moves kind body next e = rw (← e)
-
-  pub offset-stays : (r : FileRefusal) → record_answer_of (read.Refused r) ≡ record_at file at → at ≡ offset_after file at
-  unfolding offset_after record_answer_of
-  offset-stays r e = rw (← e, if_accepted-refusal {A = ℕ} r)
-
-pub kind-used : (kind : ℕ) → (body_of kind ≡ UNUSED → ⊥) → used kind ≡ true
-unfolding used
-kind-used kind h = simp (ne_eqb (body_of kind) UNUSED h)
-
-pub kind-unused : (kind : ℕ) → body_of kind ≡ UNUSED → used kind ≡ false
-unfolding used
-kind-unused kind e = simp (eq-eqb (body_of kind) UNUSED e)
 
 passes : (a b c : Bool) (x y z : FileRefusal) → pick a (verdict_of x) (pick b (pick c accepted (verdict_of y)) (verdict_of z)) ≡ accepted → (b ≡ true) × (c ≡ true)
 passes true b c x y z e = absurd (refusal-refuses x e)

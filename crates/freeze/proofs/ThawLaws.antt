@@ -10,10 +10,9 @@ use borrow.Author.Tests.{le-leb, leb-true}
 use Rattle.machine.specs.Layout.{Image}
 use Rattle.machine.specs.Refusals.{legal_sizes}
 use Rattle.freeze.specs.declared.AreaCounts.{AreaCounts}
+use Rattle.std.specs.Prelude.{Result, Ok, Err}
 use Rattle.freeze.specs.declared.FileRefusal.{FileRefusal}
 use Rattle.freeze.specs.declared.FileRefusal.TheVariants.{Sizes, Room, After, Differ}
-use Rattle.freeze.specs.declared.Thawed.{Thawed}
-use Rattle.freeze.specs.declared.Thawed.TheVariants as thawing
 use Rattle.freeze.specs.Kinds.{COUNTS, CONTROL, STACK, HEAP, TRAIL, END}
 use Rattle.freeze.specs.Verdicts.{FileVerdict, accepted, verdict_of, gate, first_of, if_accepted}
 use Rattle.freeze.specs.Records.{records_verdict}
@@ -86,29 +85,29 @@ passed-file room file p =
     ∙ first_passes _ (gate-passes (verdict_of Differ) p.agrees) ∙ first-none
 
 module _ (file : List ℕ) where
-  pub answer-refused : {v : FileVerdict} (q : FileRefusal) → v ≡ verdict_of q → thaw_answer_of (thawing.Refused q) ≡ thaw_answer v file
+  pub answer-refused : {v : FileVerdict} (q : FileRefusal) → v ≡ verdict_of q → thaw_answer_of (Err q) ≡ thaw_answer v file
   unfolding thaw_answer_of thaw_answer
   answer-refused q e = simp (e, if_accepted-refusal {A = AreaCounts} q)
 
-  pub answer-accepted : {v : FileVerdict} (n : AreaCounts) → v ≡ accepted → n ≡ counts_in file → thaw_answer_of (thawing.Areas n) ≡ thaw_answer v file
+  pub answer-accepted : {v : FileVerdict} (n : AreaCounts) → v ≡ accepted → n ≡ counts_in file → thaw_answer_of (Ok n) ≡ thaw_answer v file
   unfolding thaw_answer_of thaw_answer if_accepted
   answer-accepted n e m = rw (e, m)
 
-  pub refused-answer : {v : FileVerdict} (q : FileRefusal) → thaw_answer_of (thawing.Refused q) ≡ thaw_answer v file → v ≡ verdict_of q
+  pub refused-answer : {v : FileVerdict} (q : FileRefusal) → thaw_answer_of (Err q) ≡ thaw_answer v file → v ≡ verdict_of q
   unfolding thaw_answer_of thaw_answer
   refused-answer q e = sym (ap (λ (a : ThawAnswer). a.verdict) e)
 
-  pub accepted-answer : {v : FileVerdict} (n : AreaCounts) → thaw_answer_of (thawing.Areas n) ≡ thaw_answer v file → (v ≡ accepted) × (n ≡ counts_in file)
+  pub accepted-answer : {v : FileVerdict} (n : AreaCounts) → thaw_answer_of (Ok n) ≡ thaw_answer v file → (v ≡ accepted) × (n ≡ counts_in file)
   unfolding thaw_answer_of thaw_answer if_accepted
   accepted-answer {v} n e =
       let a : v ≡ accepted = sym (ap (λ (a : ThawAnswer). a.verdict) e) in
       (a, ap (λ (a : ThawAnswer). a.counts) e ∙ ap (λ (v : FileVerdict). if_accepted v (counts_in file) no_counts) a)
 
   -- an accepted answer has but one case
-  pub answer-areas : (r : Thawed) → thaw_answer_of r ≡ thaw_answer accepted file → r ≡ thawing.Areas (counts_in file)
+  pub answer-areas : (r : Result AreaCounts FileRefusal) → thaw_answer_of r ≡ thaw_answer accepted file → r ≡ Ok (counts_in file)
   unfolding thaw_answer_of thaw_answer if_accepted
-  answer-areas (thawing.Areas n) e = ap thawing.Areas (ap (λ (a : ThawAnswer). a.counts) e)
-  answer-areas (thawing.Refused q) e = absurd (refusal-refuses q (ap (λ (a : ThawAnswer). a.verdict) e))
+  answer-areas (Ok n) e = ap Ok (ap (λ (a : ThawAnswer). a.counts) e)
+  answer-areas (Err q) e = absurd (refusal-refuses q (ap (λ (a : ThawAnswer). a.verdict) e))
 
   module _ (lent : Image) where
     -- the sizes are legal, and the file itself decides
@@ -120,13 +119,13 @@ module _ (file : List ℕ) where
     unfolding thaw_verdict
     illegal-verdict e = first-refuses (file_stages (lengths_of lent) file) Sizes (ap (λ (b : Bool). gate b (verdict_of Sizes)) e)
 
-    pub thaws-refused : (q : FileRefusal) → thaw_verdict lent file ≡ verdict_of q → Thaws file lent (thawing.Refused q) lent
+    pub thaws-refused : (q : FileRefusal) → thaw_verdict lent file ≡ verdict_of q → Thaws file lent (Err q) lent
     thaws-refused q e = record {
       answer = answer-refused q e;
       areas = sym (ap (λ (v : FileVerdict). if_accepted v (filled lent (image_in (counts_in file) file)) lent) e ∙ if_accepted-refusal {A = Image} q _ _);
     }
 
-    pub thaws-accepted : (n : AreaCounts) (left : Image) → thaw_verdict lent file ≡ accepted → n ≡ counts_in file → left ≡ filled lent (image_in n file) → Thaws file lent (thawing.Areas n) left
+    pub thaws-accepted : (n : AreaCounts) (left : Image) → thaw_verdict lent file ≡ accepted → n ≡ counts_in file → left ≡ filled lent (image_in n file) → Thaws file lent (Ok n) left
     unfolding if_accepted
     thaws-accepted n left e m f = record {
       answer = answer-accepted n e m;
@@ -134,7 +133,7 @@ module _ (file : List ℕ) where
     }
 
     -- what an accepted file leaves, and that its lent sizes were legal
-    pub thaws-filled : (n : AreaCounts) (left : Image) → Thaws file lent (thawing.Areas n) left
+    pub thaws-filled : (n : AreaCounts) (left : Image) → Thaws file lent (Ok n) left
         → (legal_sizes lent ≡ true) × (n ≡ counts_in file) × (Passed (lengths_of lent) n file) × (left ≡ filled lent (image_in n file))
     unfolding thaw_verdict if_accepted
     thaws-filled n left t =

@@ -4,9 +4,8 @@ use Prim.Native.Nat.{ℕ, zero, suc, ◌+◌, ◌*◌, ◌≤◌, ◌<◌}
 use mathlib.Core.Path.{◌≡◌, refl, ap, ◌∙◌}
 use mathlib.Core.List.{List}
 use native.Mathlib.Omega.{arith}
-use native.Mathlib.Nat.{suc-mul, zero-add, le_of_suc-le-suc, not-suc-le-zero}
+use native.Mathlib.Nat.{suc-mul, le_of_suc-le-suc, not-suc-le-zero}
 use lib.ListN.{length, get_or}
-use Rattle.machine.specs.Layout.{Field, place_of, field, reg}
 use Rattle.freeze.specs.declared.AreaCounts.{AreaCounts}
 use Rattle.freeze.specs.Kinds.{CONTROL, record_size}
 use Rattle.freeze.specs.Verdicts.{accepted}
@@ -47,8 +46,11 @@ module _ (file : List ℕ) (kind : ℕ) where
       let p = records-bound (at + record_size kind) n i (records-passed at n e).1 (le_of_suc-le-suc h) in
       omega (arith, p, next_place at i)
 
--- a field of the control words is the word of the record that stands there
-pub field_in_lem : (file : List ℕ) (n : AreaCounts) (f : Field) (from size : ℕ) → from ≡ control_at → size ≡ record_size CONTROL → place_of f < n.control
-    → reg (image_in n file) f ≡ word_in file (from + place_of f * size) 0
-unfolding field image_in
-field_in_lem file n f from size a s h = rw (zero-add (place_of f), words-get file CONTROL control_at n.control (place_of f) h, a, s)
+-- a control word is the word of the record that stands there, whose bytes are in the file
+module _ (file : List ℕ) (n : AreaCounts) (p from size : ℕ) (a : from ≡ control_at) (s : size ≡ record_size CONTROL) (h : p < n.control) where
+  pub control-word-in : get_or (image_in n file).control p 0 ≡ word_in file (from + p * size) 0
+  unfolding image_in
+  control-word-in = rw (words-get file CONTROL control_at n.control p h, a, s)
+
+  pub control-word-bound : records_verdict file CONTROL control_at n.control ≡ accepted → from + p * size + record_size CONTROL ≤ length file
+  control-word-bound e = rw (a, s) (records-bound file CONTROL control_at n.control p e h)

@@ -12,8 +12,8 @@ use lib.Seq.{drop-cons, take_at, take-take, length-take-le, length_front}
 use borrow.Author.Tests.{le-leb, leb-true, eqb-true}
 use Rattle.machine.specs.Layout.{Image, Field, T, H, N, place_of, fixed, field, reg}
 use Rattle.machine.specs.Refusals.{legal_sizes, fits}
+use Rattle.std.specs.Prelude.{Ok}
 use Rattle.freeze.specs.declared.AreaCounts.{AreaCounts}
-use Rattle.freeze.specs.declared.Frozen.TheVariants as freezing
 use Rattle.freeze.specs.Kinds.{COUNTS, CONTROL, STACK, HEAP, TRAIL, END, word_body, body_of, record_size}
 use Rattle.freeze.specs.Verdicts.{accepted}
 use Rattle.freeze.specs.Records.{records_verdict, number_at, words}
@@ -142,4 +142,4 @@ read-writes-again file lent n areas output r left bytes t room f =
       trail = omega (arith, nt, w.trail);
     }) in
     let done = freezes-written Z output r left f (freeze-accepted Z output legal fit (le-leb (length (frozen Z)) (length output) (omega (arith, ap length again, room)))) in
-    (done.0 ∙ ap (λ (l : List ℕ). freezing.Bytes (length l)) again, done.1 ∙ ap (front output) again)
+    (done.0 ∙ ap (λ (l : List ℕ). Ok (length l)) again, done.1 ∙ ap (front output) again)

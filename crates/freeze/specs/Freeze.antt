@@ -1,11 +1,10 @@
 -- What the writer of a freeze file answers and leaves in the lent output. Document 01, 'Freeze file'. Assumes nothing.
-use Rattle.std.specs.Prelude.{ℕ, ◌/◌, ◌%◌, ◌≡◌, List, [], ◌∷◌, ◌++◌, length, take, leb}
+use Rattle.std.specs.Prelude.{ℕ, ◌/◌, ◌%◌, ◌≡◌, List, [], ◌∷◌, ◌++◌, length, take, leb, Result, Ok, Err}
 use Rattle.machine.specs.Layout.{Image}
 use Rattle.machine.specs.Refusals.{legal_sizes, fits}
 use Rattle.freeze.specs.declared.AreaCounts.{AreaCounts}
+use Rattle.freeze.specs.declared.FileRefusal.{FileRefusal}
 use Rattle.freeze.specs.declared.FileRefusal.TheVariants.{Sizes, Registers, Output}
-use Rattle.freeze.specs.declared.Frozen.{Frozen}
-use Rattle.freeze.specs.declared.Frozen.TheVariants as freezing
 use Rattle.freeze.specs.Kinds.{COUNTS, CONTROL, STACK, HEAP, TRAIL, END}
 use Rattle.freeze.specs.Verdicts.{FileVerdict, accepted, verdict_of, gate, first_of, if_accepted}
 use Rattle.freeze.specs.Thaw.{counts_of, front}
@@ -48,15 +47,15 @@ pub record FreezeAnswer : Type 0 where
   pub verdict : FileVerdict
   pub bytes : ℕ
 
-unfoldable pub freeze_answer_of : Frozen → FreezeAnswer
-freeze_answer_of (freezing.Bytes bytes) = record { verdict = accepted; bytes = bytes }
-freeze_answer_of (freezing.Refused refusal) = record { verdict = verdict_of refusal; bytes = 0 }
+unfoldable pub freeze_answer_of : Result ℕ FileRefusal → FreezeAnswer
+freeze_answer_of (Ok bytes) = record { verdict = accepted; bytes = bytes }
+freeze_answer_of (Err refusal) = record { verdict = verdict_of refusal; bytes = 0 }
 
 unfoldable pub freeze_answer : FileVerdict → Image → FreezeAnswer
 freeze_answer verdict X = record { verdict = verdict; bytes = if_accepted verdict (length (frozen X)) 0 }
 
 -- What `freeze` promises, of all areas and every lent output: its answer r and the output at exit. ".. and then writes nothing";
 -- "output past that stays"
-pub record Freezes (X : Image) (output : List ℕ) (r : Frozen) (left : List ℕ) : Type 0 where
+pub record Freezes (X : Image) (output : List ℕ) (r : Result ℕ FileRefusal) (left : List ℕ) : Type 0 where
   pub answer : freeze_answer_of r ≡ freeze_answer (freeze_verdict X output) X
   pub bytes : left ≡ if_accepted (freeze_verdict X output) (front output (frozen X)) output

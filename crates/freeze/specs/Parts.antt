@@ -1,22 +1,16 @@
 -- What the inner functions of the file parts promise one another. No public promise cites this page. Assumes nothing.
-use Rattle.std.specs.Prelude.{ℕ, ◌+◌, ◌^◌, ◌<◌, ◌≡◌, List, length}
+use Rattle.std.specs.Prelude.{ℕ, ◌+◌, ◌^◌, ◌<◌, ◌≡◌, List, length, Result, MatchResult}
 use Rattle.std.proofs.lemmas.List.Edits.{sets}
 use Rattle.freeze.specs.declared.AreaCounts.{AreaCounts}
-use Rattle.freeze.specs.declared.reading.Checked.{Checked}
-use Rattle.freeze.specs.declared.reading.Checked.TheVariants as checking
+use Rattle.freeze.specs.declared.FileRefusal.{FileRefusal}
 use Rattle.freeze.specs.Kinds.{word_body, body_of, past}
 use Rattle.freeze.specs.Verdicts.{FileVerdict, accepted, verdict_of}
 use Rattle.freeze.specs.Records.{records_verdict, words}
 use Rattle.freeze.specs.Thaw.{front}
 
-unfoldable pub checked_of : Checked → FileVerdict
-checked_of (checking.Good next) = accepted
-checked_of (checking.Refused refusal) = verdict_of refusal
-
--- a check that comes to its end tells where
-pub record Checks (v : FileVerdict) (end : ℕ) (r : Checked) : Type 0 where
-  pub verdict : checked_of r ≡ v
-  pub next : (next : ℕ) → r ≡ checking.Good next → next ≡ end
+-- what a check with this verdict answers: where it comes to its end or what it finds, or why it is refused
+abbrev pub Checks : {A : Type 0} → FileVerdict → A → Result A FileRefusal → Type 0
+Checks v found r = MatchResult r (λ x. (v ≡ accepted) × (x ≡ found)) (λ q. v ≡ verdict_of q)
 
 -- n whole records of one word each, from an offset on
 pub record Whole (file : List ℕ) (kind at n : ℕ) : Type 0 where

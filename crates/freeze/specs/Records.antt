@@ -1,8 +1,8 @@
 -- One record at an offset of a file, and so many of one kind in a row. Document 01, 'Freeze file'. Assumes nothing.
-use Rattle.std.specs.Prelude.{ℕ, zero, suc, ◌+◌, ◌*◌, Bool, List, [], ◌∷◌, length, get_or, eqb, leb}
+use Rattle.std.specs.Prelude.{ℕ, zero, suc, ◌+◌, ◌*◌, Bool, List, [], ◌∷◌, length, get_or, eqb, leb, Result, Ok, Err}
+use Rattle.freeze.specs.declared.FileRefusal.{FileRefusal}
 use Rattle.freeze.specs.declared.FileRefusal.TheVariants.{Cut, Kind}
 use Rattle.freeze.specs.declared.Record.{Record}
-use Rattle.freeze.specs.declared.Record.TheVariants as read
 use Rattle.freeze.specs.Kinds.{pick, word_body, used, record_size}
 use Rattle.freeze.specs.Verdicts.{FileVerdict, accepted, verdict_of, or_else, if_accepted}
 
@@ -26,9 +26,9 @@ pub record RecordAnswer : Type 0 where
   pub body : ℕ
   pub next : ℕ
 
-unfoldable pub record_answer_of : Record → RecordAnswer
-record_answer_of (read.Whole kind body next) = record { verdict = accepted; kind = kind; body = body; next = next }
-record_answer_of (read.Refused refusal) = record { verdict = verdict_of refusal; kind = 0; body = 0; next = 0 }
+unfoldable pub record_answer_of : Result Record FileRefusal → RecordAnswer
+record_answer_of (Ok r) = record { verdict = accepted; kind = r.kind; body = r.body; next = r.next }
+record_answer_of (Err refusal) = record { verdict = verdict_of refusal; kind = 0; body = 0; next = 0 }
 
 unfoldable pub record_at : List ℕ → ℕ → RecordAnswer
 record_at file at =

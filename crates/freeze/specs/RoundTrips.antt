@@ -1,12 +1,9 @@
 -- What the two round trips say. Document 01, 'Freeze file': "Both round trips are proved". Assumes nothing.
-use Rattle.std.specs.Prelude.{ℕ, ◌^◌, ◌<◌, ◌≤◌, ◌≡◌, true, List, length, get_or, take}
+use Rattle.std.specs.Prelude.{ℕ, ◌^◌, ◌<◌, ◌≤◌, ◌≡◌, true, List, length, get_or, take, Result, Ok}
 use Rattle.machine.specs.Layout.{Image}
 use Rattle.machine.specs.Refusals.{legal_sizes}
 use Rattle.freeze.specs.declared.AreaCounts.{AreaCounts}
-use Rattle.freeze.specs.declared.Thawed.{Thawed}
-use Rattle.freeze.specs.declared.Thawed.TheVariants as thawing
-use Rattle.freeze.specs.declared.Frozen.{Frozen}
-use Rattle.freeze.specs.declared.Frozen.TheVariants as freezing
+use Rattle.freeze.specs.declared.FileRefusal.{FileRefusal}
 use Rattle.freeze.specs.Thaw.{counts_of, lengths_of, within, front, filled, Thaws}
 use Rattle.freeze.specs.Freeze.{Freezes}
 
@@ -36,13 +33,13 @@ counted n X = record {
 -- counted, `thaw` promise, the answer is the counts of the state and the areas hold its counted words in front of what they held
 abbrev pub WrittenReadsBack : Type 0
 WrittenReadsBack =
-    (X lent : Image) (output left : List ℕ) (n : ℕ) (r : Thawed) (areas : Image)
+    (X lent : Image) (output left : List ℕ) (n : ℕ) (r : Result AreaCounts FileRefusal) (areas : Image)
     → WordImage X
-    → Freezes X output (freezing.Bytes n) left
+    → Freezes X output (Ok n) left
     → legal_sizes lent ≡ true
     → within (counts_of X) (lengths_of lent) ≡ true
     → Thaws (take n left) lent r areas
-    → (r ≡ thawing.Areas (counts_of X)) × (areas ≡ filled lent (counted (counts_of X) X))
+    → (r ≡ Ok (counts_of X)) × (areas ≡ filled lent (counted (counts_of X) X))
 
 -- the areas as they are, but of the stack just the counted front
 abbrev pub just_stack : ℕ → Image → Image
@@ -52,9 +49,9 @@ just_stack n X = record { control = X.control; stack = take n X.stack; heap = X.
 -- then, into an output with room for the file, `freeze` promise, the answer is the file's length and the output begins with the file
 abbrev pub ReadWritesAgain : Type 0
 ReadWritesAgain =
-    (file : List ℕ) (lent : Image) (n : AreaCounts) (areas : Image) (output : List ℕ) (r : Frozen) (left : List ℕ)
+    (file : List ℕ) (lent : Image) (n : AreaCounts) (areas : Image) (output : List ℕ) (r : Result ℕ FileRefusal) (left : List ℕ)
     → Bytes file
-    → Thaws file lent (thawing.Areas n) areas
+    → Thaws file lent (Ok n) areas
     → length file ≤ length output
     → Freezes (just_stack n.stack areas) output r left
-    → (r ≡ freezing.Bytes (length file)) × (left ≡ front output file)
+    → (r ≡ Ok (length file)) × (left ≡ front output file)

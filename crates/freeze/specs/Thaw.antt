@@ -1,11 +1,10 @@
 -- What the reader of a freeze file answers and leaves in the four lent areas. Document 01, 'Freeze file'. Assumes nothing.
-use Rattle.std.specs.Prelude.{ℕ, ◌+◌, ◌≡◌, Bool, ◌&&◌, List, [], ◌∷◌, ◌++◌, length, drop, eqb, leb}
+use Rattle.std.specs.Prelude.{ℕ, ◌+◌, ◌≡◌, Bool, ◌&&◌, List, [], ◌∷◌, ◌++◌, length, drop, eqb, leb, Result, Ok, Err}
 use Rattle.machine.specs.Layout.{Image, T, H, N, fixed, reg}
 use Rattle.machine.specs.Refusals.{legal_sizes}
 use Rattle.freeze.specs.declared.AreaCounts.{AreaCounts}
+use Rattle.freeze.specs.declared.FileRefusal.{FileRefusal}
 use Rattle.freeze.specs.declared.FileRefusal.TheVariants.{Sizes, Room, After, Differ}
-use Rattle.freeze.specs.declared.Thawed.{Thawed}
-use Rattle.freeze.specs.declared.Thawed.TheVariants as thawing
 use Rattle.freeze.specs.Kinds.{COUNTS, CONTROL, STACK, HEAP, TRAIL, END, past}
 use Rattle.freeze.specs.Verdicts.{FileVerdict, accepted, verdict_of, gate, first_of, if_accepted}
 use Rattle.freeze.specs.Records.{records_verdict, word_in, words}
@@ -95,9 +94,9 @@ pub record ThawAnswer : Type 0 where
 abbrev pub no_counts : AreaCounts
 no_counts = record { control = 0; stack = 0; heap = 0; trail = 0 }
 
-unfoldable pub thaw_answer_of : Thawed → ThawAnswer
-thaw_answer_of (thawing.Areas counts) = record { verdict = accepted; counts = counts }
-thaw_answer_of (thawing.Refused refusal) = record { verdict = verdict_of refusal; counts = no_counts }
+unfoldable pub thaw_answer_of : Result AreaCounts FileRefusal → ThawAnswer
+thaw_answer_of (Ok counts) = record { verdict = accepted; counts = counts }
+thaw_answer_of (Err refusal) = record { verdict = verdict_of refusal; counts = no_counts }
 
 unfoldable pub thaw_answer : FileVerdict → List ℕ → ThawAnswer
 thaw_answer verdict file = record { verdict = verdict; counts = if_accepted verdict (counts_in file) no_counts }
@@ -116,6 +115,6 @@ filled lent X = record {
 }
 
 -- What `thaw` promises, of every file and all lent areas: its answer r and the areas at exit. "A refused file changes nothing lent."
-pub record Thaws (file : List ℕ) (lent : Image) (r : Thawed) (left : Image) : Type 0 where
+pub record Thaws (file : List ℕ) (lent : Image) (r : Result AreaCounts FileRefusal) (left : Image) : Type 0 where
   pub answer : thaw_answer_of r ≡ thaw_answer (thaw_verdict lent file) file
   pub areas : left ≡ if_accepted (thaw_verdict lent file) (filled lent (image_in (counts_in file) file)) lent

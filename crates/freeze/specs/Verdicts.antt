@@ -1,6 +1,7 @@
 -- The refusals of the file parts: the paper's number and offset for each case of the enum, and which of several checks speaks.
 -- Document 01, 'Freeze file'. Assumes nothing.
 use Rattle.std.specs.Prelude.{ℕ, Bool, true, false, List, [], ◌∷◌}
+use Rattle.freeze.specs.declared.Fault.{Fault}
 use Rattle.freeze.specs.declared.FileRefusal.{FileRefusal}
 use Rattle.freeze.specs.declared.FileRefusal.TheVariants.{Sizes, Registers, Cut, Kind, Room, After, Differ, Output}
 
@@ -22,6 +23,10 @@ verdict_of Room = refused 12 0
 verdict_of (After at) = refused 13 at
 verdict_of Differ = refused 14 0
 verdict_of Output = refused 15 0
+
+-- the verdict that a number with its offset is of
+abbrev pub fault_verdict : Fault → FileVerdict
+fault_verdict f = refused f.number f.offset
 
 -- a check that passes or refuses
 abbrev pub gate : Bool → FileVerdict → FileVerdict

@@ -3,8 +3,8 @@ ghost use Rattle.std.specs.Prelude.{◌≡◌};
 ghost use Rattle.freeze.specs.Records.{record_answer_of, record_at};
 ghost use Rattle.freeze.specs.Held.{Started, ReadsNext};
 
-use crate::records::{offset_after, record_at};
-use crate::{Reader, Record};
+use crate::records::record_at;
+use crate::{FileRefusal, Reader, Record};
 
 // A reader of a file, at its start.
 pub fn new<'a>(file: &'a [u8]) -> Reader<'a>
@@ -14,25 +14,24 @@ pub fn new<'a>(file: &'a [u8]) -> Reader<'a>
 }
 
 // The record at the reader's offset. The reader moves past a whole record, and else stays.
-pub fn next<'s, 'a>(r: &'s mut Reader<'a>) -> Record
+#[tactic(auto, unfolding(crate::proofs::RecordLaws::record_answers))]
+pub fn next<'s, 'a>(r: &'s mut Reader<'a>) -> Result<Record, FileRefusal>
     ensures { ReadsNext r.old result r.new }
 {
-    let file = r.file;
-    let at = r.at;
-    let record = record_at(file, at);
-    r.at = offset_after(file, at);
-    record
+    let record = record_at(r.file, r.at)?;
+    r.at = record.next;
+    Ok(record)
 }
 
 // The record at the reader's offset, and nothing moves.
-pub fn peek<'a>(r: Reader<'a>) -> Record
+pub fn peek<'a>(r: Reader<'a>) -> Result<Record, FileRefusal>
     ensures { record_answer_of result ≡ record_at r.entry.file.now r.entry.at }
 {
     record_at(r.file, r.at)
 }
 
 // The first record of a file: a reader is made and read. Whoever calls this needs to know nothing of a reader.
-pub fn first_record(file: &[u8]) -> Record
+pub fn first_record(file: &[u8]) -> Result<Record, FileRefusal>
     ensures { record_answer_of result ≡ record_at file.now 0 }
 {
     peek(new(file))

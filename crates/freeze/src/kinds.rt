@@ -29,11 +29,10 @@ const BODIES: [u8; KINDS] = [
 pub fn body_length(kind: u8) -> u8
     ensures { result ≡ body_of kind }
 {
-    let k = kind as usize;
-    if k < KINDS {
-        return BODIES[k];
+    match BODIES.get(kind as usize) {
+        Some(length) => *length,
+        None => UNUSED,
     }
-    UNUSED
 }
 
 // The kind's byte and the body.

@@ -1,105 +1,90 @@
 // The reader of a freeze file: one pass that checks every record, then one pass that fills the areas.
-ghost use Rattle.std.specs.Prelude.{◌≡◌, ◌≤◌, length};
+ghost use Rattle.std.specs.Prelude.{◌≡◌, ◌<◌, ◌≤◌, length, slice_index};
 ghost use Rattle.freeze.specs.Kinds.{CONTROL as CONTROLS, past};
 ghost use Rattle.freeze.specs.Verdicts.{accepted, first_of};
 ghost use Rattle.freeze.specs.Records.{records_verdict};
-ghost use Rattle.freeze.specs.Thaw.{image_of, counts_in, control_at, end_at, past_end, image_in, agree as agree_of, area_stages, end_stages, file_stages, thaw_answer_of, thaw_answer, Thaws};
+ghost use Rattle.freeze.specs.Thaw.{image_of, counts_in, control_at, end_at, image_in, agree as agree_of, area_stages, end_stages, file_stages, Thaws};
 ghost use Rattle.freeze.specs.Parts.{Checks, Whole, Fills};
 
 use crate::kinds::{CONTROL, COUNTS, END, HEAP, STACK, TRAIL, record_size};
 use crate::records::word_in;
-use crate::sizes::{legal, within};
-use crate::{AreaCounts, FileRefusal, Thawed};
-
-// Past the last record, or why one is refused.
-#[derive(Clone, Copy)]
-pub enum Checked {
-    Good(usize),
-    Refused(FileRefusal),
-}
+use crate::sizes::{legal, lengths_of, within};
+use crate::{AreaCounts, FileRefusal};
+use machine::View;
 
 // So many records of one kind in a row, from an offset on.
-fn check(file: &[u8], from: usize, count: usize, kind: u8) -> Checked
+fn check(file: &[u8], from: usize, count: usize, kind: u8) -> Result<usize, FileRefusal>
     ensures { Checks (records_verdict file.now kind from count) (past from kind count) result }
 {
     let size = record_size(kind);
     let mut at = from;
-    let mut j = 0;
-    while j < count {
-        if file.len() <= at {
-            return Checked::Refused(FileRefusal::Cut(file.len()));
-        }
-        if file[at] != kind {
-            return Checked::Refused(FileRefusal::Kind(at));
+    for _ in 0..count {
+        let Some(&found) = file.get(at) else {
+            return Err(FileRefusal::Cut(file.len()));
+        };
+        if found != kind {
+            return Err(FileRefusal::Kind(at));
         }
         if file.len() - at < size {
-            return Checked::Refused(FileRefusal::Cut(at));
+            return Err(FileRefusal::Cut(at));
         }
         at += size;
-        j += 1;
     }
-    Checked::Good(at)
+    Ok(at)
 }
 
 // The records of the four areas in their order.
-fn check_areas(file: &[u8], from: usize, n: AreaCounts) -> Checked
+fn check_areas(file: &[u8], from: usize, n: AreaCounts) -> Result<usize, FileRefusal>
     requires { from ≡ control_at }
     ensures { Checks (first_of (area_stages n file.now)) (end_at n) result }
 {
-    let stack = match check(file, from, n.control, CONTROL) {
-        Checked::Good(next) => next,
-        Checked::Refused(refusal) => return Checked::Refused(refusal),
-    };
-    let heap = match check(file, stack, n.stack, STACK) {
-        Checked::Good(next) => next,
-        Checked::Refused(refusal) => return Checked::Refused(refusal),
-    };
-    let trail = match check(file, heap, n.heap, HEAP) {
-        Checked::Good(next) => next,
-        Checked::Refused(refusal) => return Checked::Refused(refusal),
-    };
+    let stack = check(file, from, n.control, CONTROL)?;
+    let heap = check(file, stack, n.stack, STACK)?;
+    let trail = check(file, heap, n.heap, HEAP)?;
     check(file, trail, n.trail, TRAIL)
 }
 
+// Word p of the control words, which begin at an offset.
+fn control_word(file: &[u8], from: usize, n: AreaCounts, p: usize) -> u32
+    requires from_value { from ≡ control_at }
+    requires control_value { records_verdict file.now CONTROLS control_at n.control ≡ accepted }
+    requires p_in_bounds { p < n.control }
+    ensures { result ≡ slice_index (image_in n file.now).control p }
+{
+    word_in(file, from + p * record_size(CONTROL), 0)
+}
+
 // Whether the counts are those that the file's own control words say.
+#[tactic(auto, unfolding(crate::specs::Thaw::agree, crate::specs::Thaw::counts_of, machine::specs::Layout::field))]
 fn agree(file: &[u8], from: usize, n: AreaCounts) -> bool
     requires from_value { from ≡ control_at }
     requires control_value { records_verdict file.now CONTROLS control_at n.control ≡ accepted }
     ensures { result ≡ agree_of n (image_in n file.now) }
 {
-    if n.control < machine::FIXED {
-        return false;
-    }
-    let size = record_size(CONTROL);
-    if n.control != machine::FIXED + word_in(file, from + machine::N * size, 0) as usize {
-        return false;
-    }
-    if n.heap != word_in(file, from + machine::H * size, 0) as usize {
-        return false;
-    }
-    n.trail == word_in(file, from + machine::T * size, 0) as usize
+    machine::FIXED <= n.control
+        && n.control == machine::FIXED + control_word(file, from, n, machine::N) as usize
+        && n.heap == control_word(file, from, n, machine::H) as usize
+        && n.trail == control_word(file, from, n, machine::T) as usize
 }
 
 // The end record, nothing after it, and counts that agree.
-fn check_end(file: &[u8], from: usize, end: usize, n: AreaCounts) -> Checked
+fn check_end(file: &[u8], from: usize, end: usize, n: AreaCounts) -> Result<(), FileRefusal>
     requires from_value { (from ≡ control_at) × (end ≡ end_at n) }
     requires control_value { records_verdict file.now CONTROLS control_at n.control ≡ accepted }
-    ensures { Checks (first_of (end_stages n file.now)) (past_end n) result }
+    ensures { Checks (first_of (end_stages n file.now)) tt result }
 {
-    let past = match check(file, end, 1, END) {
-        Checked::Good(next) => next,
-        Checked::Refused(refusal) => return Checked::Refused(refusal),
-    };
+    let past = check(file, end, 1, END)?;
     if past < file.len() {
-        return Checked::Refused(FileRefusal::After(past));
+        return Err(FileRefusal::After(past));
     }
     if !agree(file, from, n) {
-        return Checked::Refused(FileRefusal::Differ);
+        return Err(FileRefusal::Differ);
     }
-    Checked::Good(past)
+    Ok(())
 }
 
 // The four counts that the record at the file's start holds.
+#[tactic(auto, unfolding(crate::specs::Thaw::counts_in, crate::specs::Kinds::body_of))]
 pub fn counts_in(file: &[u8]) -> AreaCounts
     requires { control_at ≤ length file.now }
     ensures { result ≡ counts_in file.now }
@@ -113,25 +98,17 @@ pub fn counts_in(file: &[u8]) -> AreaCounts
 }
 
 // The whole file, from its front, for areas of these lengths.
-fn check_file(file: &[u8], room: AreaCounts) -> Thawed
-    ensures { thaw_answer_of result ≡ thaw_answer (first_of (file_stages room file.now)) file.now }
+fn check_file(file: &[u8], room: AreaCounts) -> Result<AreaCounts, FileRefusal>
+    ensures { Checks (first_of (file_stages room file.now)) (counts_in file.now) result }
 {
-    let from = match check(file, 0, 1, COUNTS) {
-        Checked::Good(next) => next,
-        Checked::Refused(refusal) => return Thawed::Refused(refusal),
-    };
+    let from = check(file, 0, 1, COUNTS)?;
     let n = counts_in(file);
     if !within(n, room) {
-        return Thawed::Refused(FileRefusal::Room);
+        return Err(FileRefusal::Room);
     }
-    let end = match check_areas(file, from, n) {
-        Checked::Good(next) => next,
-        Checked::Refused(refusal) => return Thawed::Refused(refusal),
-    };
-    match check_end(file, from, end, n) {
-        Checked::Good(_) => Thawed::Areas(n),
-        Checked::Refused(refusal) => Thawed::Refused(refusal),
-    }
+    let end = check_areas(file, from, n)?;
+    check_end(file, from, end, n)?;
+    Ok(n)
 }
 
 // The words of so many records of one kind, into the front of an area.
@@ -142,11 +119,9 @@ fn fill(file: &[u8], from: usize, count: usize, kind: u8, area: &mut [u32]) -> u
 {
     let size = record_size(kind);
     let mut at = from;
-    let mut j = 0;
-    while j < count {
-        area[j] = word_in(file, at, 0);
+    for word in &mut area[..count] {
+        *word = word_in(file, at, 0);
         at += size;
-        j += 1;
     }
     at
 }
@@ -158,25 +133,22 @@ pub fn thaw(
     stack: &mut [u32],
     heap: &mut [u32],
     trail: &mut [u32],
-) -> Thawed
+) -> Result<AreaCounts, FileRefusal>
     ensures { Thaws file.now (image_of control.old stack.old heap.old trail.old) result (image_of control.new stack.new heap.new trail.new) }
 {
-    let room = AreaCounts {
-        control: control.len(),
-        stack: stack.len(),
-        heap: heap.len(),
-        trail: trail.len(),
+    let lent = View {
+        control,
+        stack,
+        heap,
+        trail,
     };
-    if !legal(room) {
-        return Thawed::Refused(FileRefusal::Sizes);
+    if !legal(lent) {
+        return Err(FileRefusal::Sizes);
     }
-    let n = match check_file(file, room) {
-        Thawed::Areas(counts) => counts,
-        Thawed::Refused(refusal) => return Thawed::Refused(refusal),
-    };
+    let n = check_file(file, lengths_of(lent))?;
     let stack_at = fill(file, record_size(COUNTS), n.control, CONTROL, control);
     let heap_at = fill(file, stack_at, n.stack, STACK, stack);
     let trail_at = fill(file, heap_at, n.heap, HEAP, heap);
     fill(file, trail_at, n.trail, TRAIL, trail);
-    Thawed::Areas(n)
+    Ok(n)
 }

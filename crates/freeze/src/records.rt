@@ -10,48 +10,45 @@ use crate::{FileRefusal, Record};
 pub const WORD: usize = 4;
 
 // The record at an offset, or why there is none.
-pub fn record_at(file: &[u8], at: usize) -> Record
+#[tactic(auto, unfolding(crate::proofs::RecordLaws::record_answers))]
+pub fn record_at(file: &[u8], at: usize) -> Result<Record, FileRefusal>
     ensures { record_answer_of result ≡ record_at file.now at }
 {
-    if file.len() <= at {
-        return Record::Refused(FileRefusal::Cut(file.len()));
-    }
-    let kind = file[at];
+    let Some(&kind) = file.get(at) else {
+        return Err(FileRefusal::Cut(file.len()));
+    };
     let length = body_length(kind);
     if length == UNUSED {
-        return Record::Refused(FileRefusal::Kind(at));
+        return Err(FileRefusal::Kind(at));
     }
     let body = at + 1;
     if file.len() - body < length as usize {
-        return Record::Refused(FileRefusal::Cut(at));
+        return Err(FileRefusal::Cut(at));
     }
-    Record::Whole {
+    Ok(Record {
         kind,
         body,
         next: body + length as usize,
-    }
+    })
 }
 
 // Where a reader stands after it read at an offset: past a whole record, and else where it stood.
+#[tactic(auto, unfolding(crate::proofs::RecordLaws::record_answers))]
 pub fn offset_after(file: &[u8], at: usize) -> usize
     ensures { result ≡ offset_after file.now at }
 {
     match record_at(file, at) {
-        Record::Whole {
-            kind: _,
-            body: _,
-            next,
-        } => next,
-        Record::Refused(_) => at,
+        Ok(record) => record.next,
+        Err(_) => at,
     }
 }
 
 // Word j of the body of the record at an offset.
+#[tactic(auto, unfolding(crate::specs::Records::number_at))]
 pub fn word_in(file: &[u8], at: usize, j: usize) -> u32
     requires { at + 1 + j * word_body + word_body ≤ length file.now }
     ensures { result ≡ word_in file.now at j }
 {
     let i = at + 1 + j * WORD;
-    let low = file[i] as u32 + file[i + 1] as u32 * 256;
-    low + file[i + 2] as u32 * 65536 + file[i + 3] as u32 * 16777216
+    u32::from_le_bytes([file[i], file[i + 1], file[i + 2], file[i + 3]])
 }

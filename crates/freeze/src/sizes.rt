@@ -1,42 +1,43 @@
 // Counts against lengths, for the reader and the writer.
 ghost use Rattle.std.specs.Prelude.{◌≡◌};
-ghost use Rattle.machine.specs.Layout.{Image};
+ghost use Rattle.machine.specs.Lent.{seen};
 ghost use Rattle.machine.specs.Refusals.{legal_sizes};
 ghost use Rattle.freeze.specs.Thaw.{lengths_of, within as within_of};
 
 use crate::AreaCounts;
+use machine::View;
 
-// Whether areas of these lengths are of legal size.
-pub fn legal(room: AreaCounts) -> bool
-    ensures { (X : Image) → lengths_of X ≡ room → result ≡ legal_sizes X }
+// Whether areas are of legal size.
+#[tactic(auto, unfolding(machine::specs::Refusals::legal_sizes))]
+pub fn legal(lent: View<'_>) -> bool
+    ensures { result ≡ legal_sizes (seen lent.entry) }
 {
-    if machine::HEAP_MOST < room.heap {
-        return false;
+    lent.heap.len() <= machine::HEAP_MOST
+        && lent.stack.len() <= machine::STACK_MOST
+        && lent.trail.len() <= machine::TRAIL_MOST
+        && machine::FIXED <= lent.control.len()
+        && lent.control.len() <= machine::FIXED + machine::ARGUMENTS_MOST
+}
+
+// The room of each area.
+pub fn lengths_of(lent: View<'_>) -> AreaCounts
+    ensures { result ≡ lengths_of (seen lent.entry) }
+{
+    AreaCounts {
+        control: lent.control.len(),
+        stack: lent.stack.len(),
+        heap: lent.heap.len(),
+        trail: lent.trail.len(),
     }
-    if machine::STACK_MOST < room.stack {
-        return false;
-    }
-    if machine::TRAIL_MOST < room.trail {
-        return false;
-    }
-    if room.control < machine::FIXED {
-        return false;
-    }
-    room.control <= machine::FIXED + machine::ARGUMENTS_MOST
 }
 
 // Whether no count is above its room.
+#[tactic(auto, unfolding(crate::specs::Thaw::within))]
 pub fn within(n: AreaCounts, room: AreaCounts) -> bool
     ensures { result ≡ within_of n room }
 {
-    if room.control < n.control {
-        return false;
-    }
-    if room.stack < n.stack {
-        return false;
-    }
-    if room.heap < n.heap {
-        return false;
-    }
-    n.trail <= room.trail
+    n.control <= room.control
+        && n.stack <= room.stack
+        && n.heap <= room.heap
+        && n.trail <= room.trail
 }

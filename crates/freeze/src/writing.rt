@@ -1,27 +1,27 @@
 // The writer of a freeze file: nothing is written before the areas and the output's length are known to be right.
-ghost use Rattle.std.specs.Prelude.{◌≡◌, true, List, ℕ, ◌+◌, ◌≤◌, length, take};
+ghost use Rattle.std.specs.Prelude.{◌≡◌, true, ◌+◌, ◌≤◌, length, take};
 ghost use Rattle.std.proofs.lemmas.List.Edits.{sets};
 ghost use Rattle.machine.specs.Layout.{fixed};
+ghost use Rattle.machine.specs.Lent.{seen};
 ghost use Rattle.freeze.specs.Kinds.{word_body, body_of, past};
-ghost use Rattle.freeze.specs.Thaw.{image_of, lengths_of, counts_of, within as within_of, control_at, past_end};
+ghost use Rattle.freeze.specs.Thaw.{lengths_of, counts_of, within as within_of, control_at, past_end};
 ghost use Rattle.freeze.specs.Freeze.{bytes_of, records, counts_record, file_of, Freezes};
 ghost use Rattle.freeze.specs.Parts.{Small, Writes};
 
 use crate::kinds::{CONTROL, COUNTS, END, HEAP, STACK, TRAIL, record_size};
 use crate::records::WORD;
-use crate::sizes::{legal, within};
-use crate::{AreaCounts, FileRefusal, Frozen};
+use crate::sizes::{legal, lengths_of, within};
+use crate::{AreaCounts, FileRefusal};
+use machine::View;
 
 // The bytes of a word, the lowest first.
 fn put_word(output: &mut [u8], at: usize, word: u32) -> usize
     requires { at + word_body ≤ length output.old }
     ensures { Writes output.old at (bytes_of word) result output.new }
 {
-    output[at] = (word % 256) as u8;
-    output[at + 1] = (word / 256 % 256) as u8;
-    output[at + 2] = (word / 65536 % 256) as u8;
-    output[at + 3] = (word / 16777216 % 256) as u8;
-    at + WORD
+    let next = at + WORD;
+    output[at..next].copy_from_slice(&word.to_le_bytes());
+    next
 }
 
 // A record of one kind for each of the first words of an area.
@@ -32,16 +32,15 @@ fn write_area(area: &[u32], count: usize, kind: u8, output: &mut [u8], from: usi
     ensures { Writes output.old from (records kind (take count area.now)) result output.new }
 {
     let mut at = from;
-    let mut j = 0;
-    while j < count {
+    for word in &area[..count] {
         output[at] = kind;
-        at = put_word(output, at + 1, area[j]);
-        j += 1;
+        at = put_word(output, at + 1, *word);
     }
     at
 }
 
 // The counts record, at the start.
+#[tactic(auto, unfolding(crate::specs::Freeze::counts_record, crate::specs::Kinds::body_of))]
 fn write_counts(n: AreaCounts, output: &mut [u8]) -> usize
     requires small { Small n }
     requires control_at_in_bounds { control_at ≤ length output.old }
@@ -55,6 +54,7 @@ fn write_counts(n: AreaCounts, output: &mut [u8]) -> usize
 }
 
 // How long the file with these counts is.
+#[tactic(auto, unfolding(crate::specs::Kinds::body_of))]
 pub fn file_length(n: AreaCounts) -> usize
     requires { Small n }
     ensures { result ≡ past_end n }
@@ -64,67 +64,49 @@ pub fn file_length(n: AreaCounts) -> usize
 }
 
 // The file with these counts, into an output that is long enough.
-fn write_file(
-    n: AreaCounts,
-    control: &[u32],
-    stack: &[u32],
-    heap: &[u32],
-    trail: &[u32],
-    output: &mut [u8],
-)
+fn write_file(n: AreaCounts, view: View<'_>, output: &mut [u8])
     requires small { Small n }
-    requires trail_value { within_of n (lengths_of (image_of control.now stack.now heap.now trail.now)) ≡ true }
+    requires trail_value { within_of n (lengths_of (seen view)) ≡ true }
     requires n_in_bounds { past_end n ≤ length output.old }
-    ensures { output.new ≡ sets output.old 0 (file_of n (image_of control.now stack.now heap.now trail.now)) }
+    ensures { output.new ≡ sets output.old 0 (file_of n (seen view.entry)) }
 {
     let control_at = write_counts(n, output);
-    let stack_at = write_area(control, n.control, CONTROL, output, control_at);
-    let heap_at = write_area(stack, n.stack, STACK, output, stack_at);
-    let trail_at = write_area(heap, n.heap, HEAP, output, heap_at);
-    let end_at = write_area(trail, n.trail, TRAIL, output, trail_at);
+    let stack_at = write_area(view.control, n.control, CONTROL, output, control_at);
+    let heap_at = write_area(view.stack, n.stack, STACK, output, stack_at);
+    let trail_at = write_area(view.heap, n.heap, HEAP, output, heap_at);
+    let end_at = write_area(view.trail, n.trail, TRAIL, output, trail_at);
     output[end_at] = END;
 }
 
 // The counts that the control area and the stack's length give.
-fn counts_of(control: &[u32], stack: usize) -> AreaCounts
-    requires { fixed ≤ length control.now }
-    ensures { (s h t : List ℕ) → length s ≡ stack → result ≡ counts_of (image_of control.now s h t) }
+#[tactic(auto, unfolding(crate::specs::Thaw::counts_of, machine::specs::Layout::field))]
+fn counts_of(view: View<'_>) -> AreaCounts
+    requires { fixed ≤ length view.control.now }
+    ensures { result ≡ counts_of (seen view.entry) }
 {
     AreaCounts {
-        control: machine::FIXED + control[machine::N] as usize,
-        stack,
-        heap: control[machine::H] as usize,
-        trail: control[machine::T] as usize,
+        control: machine::FIXED + view.control[machine::N] as usize,
+        stack: view.stack.len(),
+        heap: view.control[machine::H] as usize,
+        trail: view.control[machine::T] as usize,
     }
 }
 
 // Four areas into the front of a lent output.
-pub fn freeze(
-    control: &[u32],
-    stack: &[u32],
-    heap: &[u32],
-    trail: &[u32],
-    output: &mut [u8],
-) -> Frozen
-    ensures { Freezes (image_of control.now stack.now heap.now trail.now) output.old result output.new }
+pub fn freeze(view: View<'_>, output: &mut [u8]) -> Result<usize, FileRefusal>
+    ensures { Freezes (seen view.entry) output.old result output.new }
 {
-    let room = AreaCounts {
-        control: control.len(),
-        stack: stack.len(),
-        heap: heap.len(),
-        trail: trail.len(),
-    };
-    if !legal(room) {
-        return Frozen::Refused(FileRefusal::Sizes);
+    if !legal(view) {
+        return Err(FileRefusal::Sizes);
     }
-    let n = counts_of(control, stack.len());
-    if !within(n, room) {
-        return Frozen::Refused(FileRefusal::Registers);
+    let n = counts_of(view);
+    if !within(n, lengths_of(view)) {
+        return Err(FileRefusal::Registers);
     }
     let bytes = file_length(n);
     if output.len() < bytes {
-        return Frozen::Refused(FileRefusal::Output);
+        return Err(FileRefusal::Output);
     }
-    write_file(n, control, stack, heap, trail, output);
-    Frozen::Bytes(bytes)
+    write_file(n, view, output);
+    Ok(bytes)
 }

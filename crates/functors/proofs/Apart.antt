@@ -20,56 +20,6 @@ pub record Scanned (heap work : List ℕ) (free i : ℕ) : Type 0 where
   pub ends : (x : ℕ) → x < i → 0 < get_or work x 0 → x + arity_of (get_or heap x 0) < free
   pub low : free ≤ i + 256
 
-pub scan-none : (heap work : List ℕ) → Scanned heap work 0 0
-scan-none heap work = record {
-  none = λ x y a b. absurd (omega arith);
-  ends = λ x a. absurd (omega arith);
-  low = omega arith;
-}
-
-module _ {heap work : List ℕ} {free i : ℕ} (s : Scanned heap work free i) where
-  -- no structure begins here
-  pub scan-clear : get_or work i 0 ≡ 0 → Scanned heap work free (i + 1)
-  scan-clear z = record {
-    none = λ x y a b p q.
-        elim (ℕ_discrete y i) [
-          | yes e ↦ rw e z
-          | no n ↦ s.none x y a (omega arith) p q
-        ];
-    ends = λ x a p.
-        elim (ℕ_discrete x i) [
-          | yes e ↦ let k : 0 < get_or work i 0 = rw e at p in absurd (omega (arith, z, k))
-          | no n ↦ s.ends x (omega arith) p
-        ];
-    low = omega (arith, s.low);
-  }
-
-  -- one does, behind the last
-  pub scan-met : free ≤ i → {end : ℕ} → end ≡ i + 1 + arity_of (get_or heap i 0) → end ≤ i + 256 → Scanned heap work end (i + 1)
-  scan-met f e m = record {
-    none = λ x y a b p q.
-        elim (ℕ_discrete y i) [
-          | yes k ↦ absurd (omega (arith, s.ends x (omega arith) p))
-          | no n ↦ s.none x y a (omega arith) p q
-        ];
-    ends = λ x a p.
-        elim (ℕ_discrete x i) [
-          | yes k ↦ rw k (omega arith)
-          | no n ↦ omega (arith, s.ends x (omega arith) p)
-        ];
-    low = omega arith;
-  }
-
-  pub scan-more : {flag end from free' : ℕ} → flag ≡ get_or work i 0 → end ≡ i + 1 + arity_of (get_or heap i 0) → end ≤ i + 256 → (flag ≡ 0 → from ≡ free) × (0 < flag → from ≡ i) → free ≤ from → (flag ≡ 0 → free' ≡ free) × (0 < flag → free' ≡ end) → Scanned heap work free' (i + 1)
-  scan-more {flag} {end} {from} {free'} a e m c l d =
-      elim (ℕ_discrete flag 0) [
-        | yes z ↦ rw (d.0 z) (scan-clear (sym a ∙ z))
-        | no n ↦ rw (d.1 (omega arith)) (scan-met (omega (arith, c.1 (omega arith))) e m)
-      ]
-
-  pub scan-end : {h : ℕ} → h ≤ i → Apart heap h work
-  scan-end l = record { none = λ x y a b p q. s.none x y a (omega arith) p q }
-
 -- ---- what the work words tell
 
 module _ (heap : List ℕ) (h : ℕ) (flags : List ℕ) where

@@ -35,7 +35,7 @@ right-after {X} {work} {notes} r h b work' d l = record {
 -- ---- first cells
 
 module _ (X : Image) {work : List ℕ} {notes : ℕ} (r : Right X work notes) where
-  pub firsts_same : (x : ℕ) → first_in X.control (reg X N) X.stack X.heap (reg X H) work notes x ≡ is_first X x
+  pub firsts_same : (x : ℕ) → first_in X work notes x ≡ is_first X x
   unfolding first_in any_to heap_to stack_to control_to is_first word
   firsts_same x =
       ap (λ (b : Bool). some_of (λ i. struct_to (get_or X.heap i 0) x) 0 (reg X H) || (b || some_of (λ i. struct_to (argument X.control 0 i) x) 0 (reg X N)))
@@ -58,7 +58,7 @@ no-firsts X f =
 
 -- ---- the checks
 
-module _ (X : Image) {work : List ℕ} {notes : ℕ} (r : Right X work notes) (c : Contained X.control (reg X N) X.stack X.heap (reg X H) work notes) (e : Entered X.trail (reg X T) (reg X H)) (firsts : ℕ → Bool) (same : (x : ℕ) → x < reg X H → firsts x ≡ is_first X x) where
+module _ (X : Image) {work : List ℕ} {notes : ℕ} (r : Right X work notes) (c : Contained X work notes) (e : Entered X.trail (reg X T) (reg X H)) (firsts : ℕ → Bool) (same : (x : ℕ) → x < reg X H → firsts x ≡ is_first X x) where
   word_same : (w : ℕ) → Within (reg X H) X.heap w → on_first X w ≡ covers_in firsts X.heap w
   unfolding on_first covers_in
   word_same w i = some_same (is_first X) firsts (covers_from w) (value_of w + extent X.heap w - covers_from w) (λ x a b. sym (same x (i x (covers X w x a b).0)))
@@ -79,7 +79,7 @@ module _ (X : Image) {work : List ℕ} {notes : ℕ} (r : Right X work notes) (c
         | inr q ↦ rw q
       ]
 
-  pub checks-same : first_of (first_checks X) ≡ first_of (covered_checks firsts X.control (reg X N) X.stack X.heap (reg X H) X.trail work notes)
+  pub checks-same : first_of (first_checks X) ≡ first_of (covered_checks firsts X work notes)
   unfolding covered_checks covers_heap covers_control
   checks-same =
       ap first_of (rw (
@@ -92,10 +92,8 @@ module _ (X : Image) {work : List ℕ} {notes : ℕ} (r : Right X work notes) (c
 -- ---- the work words
 
 -- blank words that are cleared again are as they were
-pub blank-again : (h : ℕ) (work work' : List ℕ) → h ≤ length work → ((x : ℕ) → x < h → get_or work x 0 ≡ 0) → drop h work' ≡ drop h work → take 0 work' ++ (replicate (h - 0) 0 ++ drop h work') ≡ work
-blank-again h work work' l f d =
-    let z : h - 0 ≡ h = omega arith in
-    rw (z, d) (ap (λ (front : List ℕ). front ++ drop h work) (sym front) ∙ take-append-drop h work)
+pub blank-again : (h : ℕ) (work work' : List ℕ) → h ≤ length work → ((x : ℕ) → x < h → get_or work x 0 ≡ 0) → drop h work' ≡ drop h work → replicate h 0 ++ drop h work' ≡ work
+blank-again h work work' l f d = rw d (ap (λ (front : List ℕ). front ++ drop h work) (sym front) ∙ take-append-drop h work)
   where
     front : take h work ≡ replicate h 0
     front =

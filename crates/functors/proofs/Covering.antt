@@ -1,5 +1,5 @@
 -- Which first cells a word covers, tag by tag, as the counts or the flags in the work words say. Assumes nothing.
-use Prim.Native.Nat.{ℕ, ◌+◌, ◌-◌, ◌%◌, ◌≤◌, ◌<◌}
+use Prim.Native.Nat.{ℕ, ◌+◌, ◌-◌, ◌%◌, ◌<◌}
 use mathlib.Core.Path.{◌≡◌, refl, sym, ap, ap₂, ◌∙◌}
 use mathlib.Core.Logic.{◌≢◌}
 use mathlib.Core.Bool.{Bool, false, ◌&&◌, ◌||◌, not}
@@ -11,12 +11,11 @@ use lib.ListN.{get_or}
 use lib.Dec.{eqb}
 use Rattle.cell.specs.Word.{VAR, STRUCT, LIST, CONST, value_of, tag_of, stack_base, in_heap, arity_of, extent}
 use Rattle.cell.proofs.Words.{extent-heap-var, extent-stack-var, extent-struct, extent-list, extent-const}
-use Rattle.machine.specs.Refusals.{first, some_of, covers_from}
+use Rattle.machine.specs.Refusals.{some_of, covers_from}
 use Rattle.machine.specs.Moved.{below}
 use Rattle.machine.proofs.Tests.{and-unless}
-use Rattle.machine.proofs.Firsts.{first-none}
 use Rattle.machine.proofs.FirstCells.{covers-struct, covers-other}
-use Rattle.functors.specs.Functors.{covers_in, covers_heap, Within, Named, Tallied, Owned, Off}
+use Rattle.functors.specs.Functors.{covers_in, Within, Named, Tallied, Owned, Off}
 use Rattle.functors.proofs.Some.{some-none, some_one, some-two, some_below}
 
 module _ (firsts : ℕ → Bool) (heap : List ℕ) (w : ℕ) where
@@ -92,28 +91,3 @@ module _ {firsts : ℕ → Bool} {heap : List ℕ} {h : ℕ} {work : List ℕ} {
                   ]
             ]
       ]
-
--- ---- the look-ups of `names_flag`
-
-pub even-low : (w n : ℕ) → (tag_of w ≡ VAR → value_of w < n) → (tag_of w ≡ LIST → value_of w + 1 < n) → tag_of w % 2 ≡ 0 → value_of w < n
-even-low w n v l e =
-    elim (ℕ_discrete (tag_of w) VAR) [
-      | yes q ↦ v q
-      | no q ↦ omega (arith, l (omega arith))
-    ]
-
-module _ (work : List ℕ) (w : ℕ) {a second most : ℕ} (f : tag_of w % 2 ≡ 0 → a ≡ value_of w) (g : tag_of w ≡ LIST → second ≡ 1) (m : tag_of w % 2 ≡ 0 → most ≡ 0) where
-  pub looked-up : get_or work a 0 ≤ most → get_or work (a + second) 0 ≤ most → Off work w
-  looked-up p q = record {
-    var = λ e. let z : tag_of w % 2 ≡ 0 = omega arith in rw (← f z) (omega (arith, m z));
-    head = λ e. let z : tag_of w % 2 ≡ 0 = omega arith in rw (← f z) (omega (arith, m z));
-    tail = λ e. let z : tag_of w % 2 ≡ 0 = omega arith in rw (← f z, ← g e) (omega (arith, m z));
-  }
-
--- ---- a heap without such a word
-
-pub none-lowest : {firsts : ℕ → Bool} {heap : List ℕ} {h : ℕ} {work : List ℕ} {total : ℕ} → Tallied firsts heap h work total → total ≡ 0 → ((i : ℕ) → i < h → Owned firsts (get_or heap i 0)) → ((i : ℕ) → i < h → Within h heap (get_or heap i 0)) → ((i : ℕ) → i < h → Named h (get_or heap i 0)) → ((i : ℕ) → i < h → Off work (get_or heap i 0)) → h ≡ first (covers_heap firsts heap) 0 h
-unfolding covers_heap
-none-lowest {firsts} {heap} {h} t z o i n f =
-    let e : 0 + h ≡ h = omega arith in
-    sym (first-none (covers_heap firsts heap) 0 h (λ j a b. off-covers t z (get_or heap j 0) (o j (omega arith)) (i j (omega arith)) (n j (omega arith)) (f j (omega arith))) ∙ e)

@@ -1,8 +1,10 @@
 pub mod Some
+pub mod Slices
 pub mod Flagging
 pub mod Covering
 pub mod Apart
 pub mod Areas
+pub mod Seeking
 pub mod Passing
 pub mod Bridge
 pub mod Checking

@@ -81,7 +81,7 @@ module _ (X : Image) where
 -- ---- the areas
 
 module _ (X : Image) (notes : ℕ) (sizes : Sizes X) (fits : Fits X) (behind : length X.heap ≤ notes) (p : first_of (cell_checks X (entry_checks X [])) ≡ accepted) where
-  pub contained : {work : List ℕ} → Right X work notes → Contained X.control (reg X N) X.stack X.heap (reg X H) work notes
+  pub contained : {work : List ℕ} → Right X work notes → Contained X work notes
   unfolding word
   contained r = record {
     top = fits.heap;
@@ -103,24 +103,24 @@ module _ (X : Image) (notes : ℕ) (sizes : Sizes X) (fits : Fits X) (behind : l
 struct-aims : (h : ℕ) (heap : List ℕ) (w x : ℕ) → Within h heap w → struct_to w x ≡ true → x < h
 struct-aims h heap w x i e = let t = (to-iff w x).0 e in omega (arith, struct-below h heap w i refl t.struct refl, t.first)
 
-module _ {control : List ℕ} {n : ℕ} {stack heap : List ℕ} {h : ℕ} {work : List ℕ} {notes : ℕ} (c : Contained control n stack heap h work notes) where
-  pub heap-aims : Aims (heap_to heap) h h
+module _ {X : Image} {work : List ℕ} {notes : ℕ} (c : Contained X work notes) where
+  pub heap-aims : Aims (heap_to X.heap) (reg X H) (reg X H)
   unfolding heap_to
-  heap-aims = record { below = λ i x l e. struct-aims h heap (get_or heap i 0) x (c.of_heap i l) e }
+  heap-aims = record { below = λ i x l e. struct-aims (reg X H) X.heap (get_or X.heap i 0) x (c.of_heap i l) e }
 
-  pub stack-aims : Aims (stack_to stack work notes) (length stack) h
+  pub stack-aims : Aims (stack_to X.stack work notes) (length X.stack) (reg X H)
   unfolding stack_to
-  stack-aims = record { below = λ i x l e. struct-aims h heap (get_or stack i 0) x (c.of_stack i l (and_left (notes_cell work notes i) _ e)) (and_right (notes_cell work notes i) _ e) }
+  stack-aims = record { below = λ i x l e. struct-aims (reg X H) X.heap (get_or X.stack i 0) x (c.of_stack i l (and_left (notes_cell work notes i) _ e)) (and_right (notes_cell work notes i) _ e) }
 
-  pub control-aims : Aims (control_to control) n h
+  pub control-aims : Aims (control_to X.control) (reg X N) (reg X H)
   unfolding control_to
-  control-aims = record { below = λ i x l e. struct-aims h heap (argument control 0 i) x (c.of_control i l) e }
+  control-aims = record { below = λ i x l e. struct-aims (reg X H) X.heap (argument X.control 0 i) x (c.of_control i l) e }
 
   -- so flags change no word from h on
-  pub flags-rest : {work' : List ℕ} {met most : ℕ} → Flags (first_in control n stack heap h work notes) work work' met most → drop h work' ≡ drop h work
+  pub flags-rest : {work' : List ℕ} {met most : ℕ} → Flags (first_in X work notes) work work' met most → drop (reg X H) work' ≡ drop (reg X H) work
   unfolding first_in
   flags-rest {work'} f =
-      rest-same h work' work f.same (λ x l. f.off x (rw (aims-clear heap-aims h (omega arith) x l, aims-clear stack-aims (length stack) (omega arith) x l, aims-clear control-aims n (omega arith) x l)))
+      rest-same (reg X H) work' work f.same (λ x l. f.off x (rw (aims-clear heap-aims (reg X H) (omega arith) x l, aims-clear stack-aims (length X.stack) (omega arith) x l, aims-clear control-aims (reg X N) (omega arith) x l)))
 
 pub aims-up : {test : ℕ → ℕ → Bool} {n top : ℕ} → Aims test n top → (above : ℕ) → top ≤ above → Aims test n above
 aims-up a above l = record { below = λ i x m e. omega (arith, a.below i x m e) }

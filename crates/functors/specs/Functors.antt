@@ -1,14 +1,15 @@
 -- Refusal 17 with the notes of the stack words for their roles: which heap cells are first cells of a STRUCT's target, and which words cover
 -- a cell of such a set. Assumes nothing.
+use Rattle.machine.specs.declared.Refusal.{Refusal}
+use Rattle.std.specs.Prelude.{Result}
 use Rattle.std.specs.Prelude.{ℕ, ◌+◌, ◌-◌, ◌%◌, ◌≤◌, ◌<◌, ◌≡◌, ◌⊎◌, Bool, true, false, ◌&&◌, ◌||◌, List, [], ◌∷◌, length, get_or, eqb}
 use Rattle.cell.specs.Word.{VAR, STRUCT, LIST, value_of, tag_of, arity_of, stack_base, in_heap, extent, Refers}
 use Rattle.machine.specs.declared.Area.TheVariants.{Heap, Stack, Control, Trail}
-use Rattle.machine.specs.Layout.{Image, H, T, fixed, field, reg, argument, heap_most}
+use Rattle.machine.specs.Layout.{Image, H, N, T, fixed, reg, argument, heap_most}
 use Rattle.machine.specs.Moved.{below}
 use Rattle.machine.specs.Refusals.{in_area, Verdict, accepted, refused, scan, first_of, cell_checks, entry_checks, struct_to, some_of, covers_from, first_checks}
 use Rattle.machine.proofs.Accepted.{Sizes, Fits}
-use Rattle.counts.specs.Counts.{Counting, Counted}
-use Rattle.cells.specs.declared.Checked.{Checked}
+use Rattle.counts.specs.Counts.{Counting, Counted, Low}
 use Rattle.cells.specs.Cells.{checked_to, notes_cell, Right}
 
 -- ---- first cells
@@ -27,10 +28,9 @@ control_to control i x = struct_to (argument control 0 i) x
 unfoldable pub any_to : (ℕ → ℕ → Bool) → ℕ → ℕ → Bool
 any_to test n x = some_of (λ i. test i x) 0 n
 
--- h and n being the registers H and n
-unfoldable pub first_in : List ℕ → ℕ → List ℕ → List ℕ → ℕ → List ℕ → ℕ → ℕ → Bool
-first_in control n stack heap h work notes x =
-    any_to (heap_to heap) h x || (any_to (stack_to stack work notes) (length stack) x || any_to (control_to control) n x)
+unfoldable pub first_in : Image → List ℕ → ℕ → ℕ → Bool
+first_in X work notes x =
+    any_to (heap_to X.heap) (reg X H) x || (any_to (stack_to X.stack work notes) (length X.stack) x || any_to (control_to X.control) (reg X N) x)
 
 -- all first cells of the first n lie below top
 pub record Aims (test : ℕ → ℕ → Bool) (n top : ℕ) : Type 0 where
@@ -63,12 +63,12 @@ unfoldable pub entry_in : (ℕ → Bool) → List ℕ → ℕ → Bool
 entry_in firsts trail i = in_heap (get_or trail i 0) && firsts (get_or trail i 0)
 
 -- 17 over the areas
-unfoldable pub covered_checks : (ℕ → Bool) → List ℕ → ℕ → List ℕ → List ℕ → ℕ → List ℕ → List ℕ → ℕ → List Verdict
-covered_checks firsts control n stack heap h trail work notes =
-    scan (covers_heap firsts heap) h (λ i. refused 17 (in_area Heap i))
-    ∷ scan (covers_stack firsts heap stack work notes) (length stack) (λ i. refused 17 (in_area Stack i))
-    ∷ scan (covers_control firsts heap control) n (λ i. refused 17 (in_area Control (fixed + i)))
-    ∷ scan (entry_in firsts trail) (field control 0 T) (λ i. refused 17 (in_area Trail i))
+unfoldable pub covered_checks : (ℕ → Bool) → Image → List ℕ → ℕ → List Verdict
+covered_checks firsts X work notes =
+    scan (covers_heap firsts X.heap) (reg X H) (λ i. refused 17 (in_area Heap i))
+    ∷ scan (covers_stack firsts X.heap X.stack work notes) (length X.stack) (λ i. refused 17 (in_area Stack i))
+    ∷ scan (covers_control firsts X.heap X.control) (reg X N) (λ i. refused 17 (in_area Control (fixed + i)))
+    ∷ scan (entry_in firsts X.trail) (reg X T) (λ i. refused 17 (in_area Trail i))
     ∷ []
 
 -- ---- what is checked
@@ -82,17 +82,17 @@ pub record Named (h w : ℕ) : Type 0 where
   pub var : tag_of w ≡ VAR → value_of w < h
   pub list : tag_of w ≡ LIST → value_of w + 1 < h
 
--- so it is of every cell, h and n being the registers H and n; the notes stand behind the heap's part
-pub record Contained (control : List ℕ) (n : ℕ) (stack heap : List ℕ) (h : ℕ) (work : List ℕ) (notes : ℕ) : Type 0 where
-  pub top : h ≤ length heap
-  pub small : h ≤ heap_most
-  pub behind : h ≤ notes
-  pub room : notes + length stack ≤ length work
-  pub arguments : fixed + n ≤ length control
-  pub of_heap : (i : ℕ) → i < h → Within h heap (get_or heap i 0)
-  pub named : (i : ℕ) → i < h → Named h (get_or heap i 0)
-  pub of_stack : (i : ℕ) → i < length stack → notes_cell work notes i ≡ true → Within h heap (get_or stack i 0)
-  pub of_control : (i : ℕ) → i < n → Within h heap (argument control 0 i)
+-- so it is of every cell of an image; the notes stand behind the heap's part
+pub record Contained (X : Image) (work : List ℕ) (notes : ℕ) : Type 0 where
+  pub top : reg X H ≤ length X.heap
+  pub small : reg X H ≤ heap_most
+  pub behind : reg X H ≤ notes
+  pub room : notes + length X.stack ≤ length work
+  pub arguments : fixed + reg X N ≤ length X.control
+  pub of_heap : (i : ℕ) → i < reg X H → Within (reg X H) X.heap (get_or X.heap i 0)
+  pub named : (i : ℕ) → i < reg X H → Named (reg X H) (get_or X.heap i 0)
+  pub of_stack : (i : ℕ) → i < length X.stack → notes_cell work notes i ≡ true → Within (reg X H) X.heap (get_or X.stack i 0)
+  pub of_control : (i : ℕ) → i < reg X N → Within (reg X H) X.heap (argument X.control 0 i)
 
 -- and so do the trail entries, t of them, that name a heap cell
 pub record Entered (trail : List ℕ) (t h : ℕ) : Type 0 where
@@ -124,11 +124,22 @@ pub record Tallied (firsts : ℕ → Bool) (heap : List ℕ) (h : ℕ) (work : L
 abbrev pub Owned : (ℕ → Bool) → ℕ → Type 0
 Owned firsts w = tag_of w ≡ STRUCT → firsts (value_of w) ≡ true
 
--- so of every cell, h and n being the registers H and n
-pub record Owns (firsts : ℕ → Bool) (control : List ℕ) (n : ℕ) (stack heap : List ℕ) (h : ℕ) (work : List ℕ) (notes : ℕ) : Type 0 where
-  pub of_heap : (i : ℕ) → i < h → Owned firsts (get_or heap i 0)
-  pub of_stack : (i : ℕ) → i < length stack → notes_cell work notes i ≡ true → Owned firsts (get_or stack i 0)
-  pub of_control : (i : ℕ) → i < n → Owned firsts (argument control 0 i)
+-- so of every cell of an image
+pub record Owns (firsts : ℕ → Bool) (X : Image) (work : List ℕ) (notes : ℕ) : Type 0 where
+  pub of_heap : (i : ℕ) → i < reg X H → Owned firsts (get_or X.heap i 0)
+  pub of_stack : (i : ℕ) → i < length X.stack → notes_cell work notes i ≡ true → Owned firsts (get_or X.stack i 0)
+  pub of_control : (i : ℕ) → i < reg X N → Owned firsts (argument X.control 0 i)
+
+-- what the searches of the areas ask
+pub record Searchable (X : Image) (work : List ℕ) (notes : ℕ) : Type 0 where
+  pub contained : Contained X work notes
+  pub low : Low (reg X H) work
+  pub entered : Entered X.trail (reg X T) (reg X H)
+
+-- of which set of first cells the work words and their total tell
+pub record Telling (firsts : ℕ → Bool) (X : Image) (work : List ℕ) (notes total : ℕ) : Type 0 where
+  pub tallied : Tallied firsts X.heap (reg X H) work total
+  pub owns : Owns firsts X work notes
 
 -- a VAR or a LIST covers no flagged cell
 pub record Off (work : List ℕ) (w : ℕ) : Type 0 where
@@ -147,6 +158,6 @@ pub record Checkable (X : Image) (work : List ℕ) (notes : ℕ) : Type 0 where
   pub blank : (x : ℕ) → x < reg X H → get_or work x 0 ≡ 0
   pub passed : first_of (cell_checks X (entry_checks X [])) ≡ accepted
 
-pub record ChecksFirst (X : Image) (work : List ℕ) (r : Checked) (work' : List ℕ) : Type 0 where
+pub record ChecksFirst (X : Image) (work : List ℕ) (r : Result (Unit {0}) Refusal) (work' : List ℕ) : Type 0 where
   pub gives : checked_to r ≡ first_of (first_checks X)
   pub stays : work' ≡ work

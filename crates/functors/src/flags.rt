@@ -2,11 +2,13 @@
 // cells and of the saved arguments. Each function answers how many STRUCTs it met.
 ghost use Rattle.std.specs.Prelude.{◌≡◌, ◌+◌, ◌<◌, ◌≤◌, length};
 ghost use Rattle.cell.specs.Word.{STRUCT, value_of, tag_of};
-ghost use Rattle.machine.specs.Layout.{fixed};
+ghost use Rattle.machine.specs.Layout.{H, N, reg};
+ghost use Rattle.machine.specs.Lent.{seen};
 ghost use Rattle.machine.specs.Refusals.{struct_to};
-ghost use Rattle.functors.specs.Functors.{heap_to, stack_to, control_to, any_to, first_in, Aims, Flags, Contained};
+ghost use Rattle.functors.specs.Functors.{heap_to, stack_to, any_to, first_in, Aims, Flags, Contained};
 
-use machine::{CELL, FIXED};
+use cell::Tag;
+use machine::{CELL, FIXED, View};
 
 // Flags the first cell of one word's target, where the word is a STRUCT. Thousands may share one target: it is read for each and written
 // for the first.
@@ -14,75 +16,55 @@ fn flag_word(work: &mut [u32], word: u32) -> usize
     requires { tag_of word ≡ STRUCT → value_of word < length work.old }
     ensures { Flags (struct_to word) work.old work.new result 1 }
 {
-    if cell::tag(word) != cell::STRUCT {
-        return 0;
-    }
-    let x = cell::value(word) as usize;
-    if work[x] != 1 {
-        work[x] = 1;
-    }
-    1
-}
-
-// Of the stack's cells, which the notes tell.
-fn flag_stack(stack: &[u32], work: &mut [u32], notes: usize) -> usize
-    requires { (notes + length stack.now ≤ length work.old) × Aims (stack_to stack.now work.old notes) (length stack.now) notes }
-    ensures { Flags (any_to (stack_to stack.now work.old notes) (length stack.now)) work.old work.new result (length stack.now) }
-{
-    let mut met = 0;
-    let mut i = 0;
-    while i < stack.len() {
-        if work[notes + i] == CELL {
-            met += flag_word(work, stack[i]);
+    match Tag::of(word) {
+        Tag::Struct => {
+            let x = cell::value(word) as usize;
+            if work[x] != 1 {
+                work[x] = 1;
+            }
+            1
         }
-        i += 1;
+        _ => 0,
+    }
+}
+
+// Of some words, all of them cells.
+fn flag_words(words: &[u32], work: &mut [u32]) -> usize
+    requires { Aims (heap_to words.now) (length words.now) (length work.old) }
+    ensures { Flags (any_to (heap_to words.now) (length words.now)) work.old work.new result (length words.now) }
+{
+    let mut met = 0;
+    for word in words {
+        met += flag_word(work, *word);
     }
     met
 }
 
-// Of the saved arguments, n of them.
-fn flag_control(control: &[u32], n: usize, work: &mut [u32]) -> usize
-    requires { (fixed + n ≤ length control.now) × Aims (control_to control.now) n (length work.old) }
-    ensures { Flags (any_to (control_to control.now) n) work.old work.new result n }
+// Of the stack's cells, as the notes of the stack's words say which they are.
+fn flag_stack(stack: &[u32], notes: &[u32], work: &mut [u32]) -> usize
+    requires { (length stack.now ≤ length notes.now) × Aims (stack_to stack.now notes.now 0) (length stack.now) (length work.old) }
+    ensures { Flags (any_to (stack_to stack.now notes.now 0) (length stack.now)) work.old work.new result (length stack.now) }
 {
     let mut met = 0;
-    let mut i = 0;
-    while i < n {
-        met += flag_word(work, control[FIXED + i]);
-        i += 1;
-    }
-    met
-}
-
-// Of the heap's cells below h.
-fn flag_heap(heap: &[u32], h: usize, work: &mut [u32]) -> usize
-    requires { (h ≤ length heap.now) × Aims (heap_to heap.now) h (length work.old) }
-    ensures { Flags (any_to (heap_to heap.now) h) work.old work.new result h }
-{
-    let mut met = 0;
-    let mut i = 0;
-    while i < h {
-        met += flag_word(work, heap[i]);
-        i += 1;
+    for (word, note) in stack.iter().zip(notes) {
+        if *note == CELL {
+            met += flag_word(work, *word);
+        }
     }
     met
 }
 
 // Of all three.
-pub(super) fn flag_all(
-    control: &[u32],
-    n: usize,
-    stack: &[u32],
-    heap: &[u32],
-    h: usize,
-    work: &mut [u32],
-    notes: usize,
-) -> usize
-    requires { Contained control.now n stack.now heap.now h work.old notes }
-    ensures { Flags (first_in control.now n stack.now heap.now h work.old notes) work.old work.new result (length stack.now + n + h) }
+#[tactic(auto, unfolding(machine::specs::Layout::field))]
+pub(super) fn flag_all(view: View<'_>, work: &mut [u32]) -> usize
+    requires { Contained (seen view) work.old (length view.heap.now) }
+    ensures { let X = seen view.entry in Flags (first_in X work.old (length X.heap)) work.old work.new result (length X.stack + reg X N + reg X H) }
 {
-    let on_stack = flag_stack(stack, work, notes);
-    let in_control = flag_control(control, n, work);
-    let on_heap = flag_heap(heap, h, work);
+    let h = view.control[machine::H] as usize;
+    let n = view.control[machine::N] as usize;
+    let (front, notes) = work.split_at_mut(view.heap.len());
+    let on_stack = flag_stack(view.stack, notes, front);
+    let in_control = flag_words(&view.control[FIXED..FIXED + n], front);
+    let on_heap = flag_words(&view.heap[..h], front);
     on_stack + in_control + on_heap
 }

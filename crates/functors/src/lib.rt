@@ -8,31 +8,26 @@ mod tallies; // tallies.rt: whether the structures lie apart; if not, the flags 
 mod words; // words.rt: whether one word covers a first cell
 mod places; // places.rt: the lowest place of a word that does
 
+ghost use Rattle.std.specs.Prelude.{length};
+ghost use Rattle.machine.specs.Lent.{seen};
 ghost use Rattle.functors.specs.Functors.{Checkable, ChecksFirst};
 
-use cells::Checked;
-use machine::{H, N};
+use machine::{H, Refusal, View};
+use places::Searched;
 
-// Refusal 17, of an image that passes 1 to 7 and whose stack words are noted. The work words are left as they were.
-pub fn check_first(
-    control: &[u32],
-    stack: &[u32],
-    heap: &[u32],
-    trail: &[u32],
-    work: &mut [u32],
-    notes: usize,
-) -> Checked
-    requires { Checkable (record { control = control.now; stack = stack.now; heap = heap.now; trail = trail.now }) work.old notes }
-    ensures { ChecksFirst (record { control = control.now; stack = stack.now; heap = heap.now; trail = trail.now }) work.old result work.new }
+// Refusal 17, of an image that passes 1 to 7 and whose stack words are noted, behind the heap's part of the work words. They are left as
+// they were.
+#[tactic(auto, unfolding(machine::specs::Layout::field))]
+pub fn check_first(view: View<'_>, work: &mut [u32]) -> Result<(), Refusal>
+    requires { Checkable (seen view) work.old (length view.heap.now) }
+    ensures { ChecksFirst (seen view.entry) work.old result work.new }
 {
-    let h = control[H] as usize;
-    let n = control[N] as usize;
-    let structures = flags::flag_all(control, n, stack, heap, h, work, notes);
-    if structures == 0 {
-        return Checked::Passed;
+    if flags::flag_all(view, work) == 0 {
+        return Ok(());
     }
-    let total = tallies::tally(heap, h, work);
-    let checked = places::find(control, n, stack, heap, h, trail, work, notes, total);
-    counts::clear(work, 0, h);
+    let h = view.control[H] as usize;
+    let total = tallies::tally(view.heap, h, work);
+    let checked = Searched { view, work, total }.find();
+    work[..h].fill(0);
     checked
 }

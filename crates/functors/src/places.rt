@@ -1,182 +1,109 @@
 // The lowest place of a cell or a trail entry that covers a first cell, the areas in their order.
-ghost use Rattle.std.specs.Prelude.{◌≡◌, Bool, true, ℕ, ◌+◌, ◌<◌, ◌≤◌, length, get_or};
-ghost use Rattle.machine.specs.Layout.{T, fixed, argument, field};
-ghost use Rattle.machine.specs.Refusals.{first, first_of, refused, in_area};
-ghost use Rattle.counts.specs.Counts.{Low};
-ghost use Rattle.cells.specs.Cells.{checked_to, notes_cell};
-ghost use Rattle.functors.specs.Functors.{covers_heap, covers_stack, covers_control, entry_in, covered_checks, Within, Named, Off, Contained, Entered, Odd, Tallied, Owned, Owns};
+ghost use Rattle.std.specs.Prelude.{◌≡◌, Bool, true, ℕ, ◌<◌, ◌≤◌, length, get_or, IfSome};
+ghost use Rattle.machine.specs.Layout.{H, T, reg};
+ghost use Rattle.machine.specs.Lent.{seen};
+ghost use Rattle.machine.specs.Lowest.{Lowest};
+ghost use Rattle.machine.specs.Refusals.{first_of, refused, in_area};
+ghost use Rattle.cells.specs.Cells.{checked_to};
+ghost use Rattle.functors.specs.Functors.{covers_in, covers_heap, covers_stack, entry_in, covered_checks, Within, Named, Off, Odd, Tallied, Owned, Searchable, Telling};
 
 use super::words::{covers_first, names_first, names_flag};
-use cells::Checked;
-use machine::{Area, CELL, FIXED, Place, Refusal};
+use machine::{Area, CELL, FIXED, Place, Refusal, View};
 
-// The lowest such heap index below h, or h.
-fn first_heap(heap: &[u32], h: usize, work: &[u32], total: u32) -> usize
-    requires { (h ≤ length heap.now) × Low h work.now × ((i : ℕ) → i < h → Within h heap.now (get_or heap.now i 0)) }
-    ensures { (firsts : ℕ → Bool) → Tallied firsts heap.now h work.now total → ((i : ℕ) → i < h → Owned firsts (get_or heap.now i 0)) → result ≡ first (covers_heap firsts heap.now) 0 h }
-{
-    let mut i = 0;
-    while i < h {
-        if covers_first(heap, h, work, total, heap[i]) {
-            return i;
-        }
-        i += 1;
-    }
-    i
+// An image with the work words that tell its first cells, and their total.
+#[derive(Clone, Copy)]
+pub(super) struct Searched<'a> {
+    pub view: View<'a>,
+    pub work: &'a [u32],
+    pub total: u32,
+    ghost searchable: { Searchable (seen view) work.now (length view.heap.now) },
 }
 
-// Whether no VAR and no LIST below h covers a flagged cell.
-fn heap_off(heap: &[u32], h: usize, work: &[u32]) -> bool
-    requires { (h ≤ length heap.now) × (h ≤ length work.now) × ((i : ℕ) → i < h → Named h (get_or heap.now i 0)) }
-    ensures { result ≡ true → (i : ℕ) → i < h → Off work.now (get_or heap.now i 0) }
+// Whether no VAR and no LIST of some cells covers a flagged cell.
+fn heap_off(cells: &[u32], work: &[u32]) -> bool
+    requires { (length cells.now ≤ length work.now) × ((i : ℕ) → i < length cells.now → Named (length work.now) (get_or cells.now i 0)) }
+    ensures { result ≡ true → (i : ℕ) → i < length cells.now → Off work.now (get_or cells.now i 0) }
 {
-    let mut i = 0;
-    while i < h {
-        if names_flag(work, heap[i]) {
-            return false;
-        }
-        i += 1;
-    }
-    true
-}
-
-// The lowest such heap index below h, or h. Where structures lie apart no STRUCT is in question, and one pass without a branch decides
-// whether there is any.
-fn lowest_heap(heap: &[u32], h: usize, work: &[u32], total: u32) -> usize
-    requires { (h ≤ length heap.now) × Low h work.now × ((i : ℕ) → i < h → Within h heap.now (get_or heap.now i 0)) × ((i : ℕ) → i < h → Named h (get_or heap.now i 0)) }
-    ensures { (firsts : ℕ → Bool) → Tallied firsts heap.now h work.now total → ((i : ℕ) → i < h → Owned firsts (get_or heap.now i 0)) → result ≡ first (covers_heap firsts heap.now) 0 h }
-{
-    if total == 0 {
-        if heap_off(heap, h, work) {
-            return h;
-        }
-    }
-    first_heap(heap, h, work, total)
-}
-
-// Whether the stack word at i is such a cell.
-fn covering_cell(
-    stack: &[u32],
-    heap: &[u32],
-    h: usize,
-    work: &[u32],
-    notes: usize,
-    total: u32,
-    i: usize,
-) -> bool
-    requires { (h ≤ length heap.now) × Low h work.now × (notes + length stack.now ≤ length work.now) × (i < length stack.now)
-        × (notes_cell work.now notes i ≡ true → Within h heap.now (get_or stack.now i 0)) }
-    ensures { (firsts : ℕ → Bool) → Tallied firsts heap.now h work.now total → (notes_cell work.now notes i ≡ true → Owned firsts (get_or stack.now i 0))
-        → result ≡ covers_stack firsts heap.now stack.now work.now notes i }
-{
-    if work[notes + i] != CELL {
-        return false;
-    }
-    covers_first(heap, h, work, total, stack[i])
-}
-
-// The lowest such stack index, or the stack's length.
-fn first_stack(
-    stack: &[u32],
-    heap: &[u32],
-    h: usize,
-    work: &[u32],
-    notes: usize,
-    total: u32,
-) -> usize
-    requires { (h ≤ length heap.now) × Low h work.now × (notes + length stack.now ≤ length work.now)
-        × ((i : ℕ) → i < length stack.now → notes_cell work.now notes i ≡ true → Within h heap.now (get_or stack.now i 0)) }
-    ensures { (firsts : ℕ → Bool) → Tallied firsts heap.now h work.now total
-        → ((i : ℕ) → i < length stack.now → notes_cell work.now notes i ≡ true → Owned firsts (get_or stack.now i 0))
-        → result ≡ first (covers_stack firsts heap.now stack.now work.now notes) 0 (length stack.now) }
-{
-    let mut i = 0;
-    while i < stack.len() {
-        if covering_cell(stack, heap, h, work, notes, total, i) {
-            return i;
-        }
-        i += 1;
-    }
-    i
-}
-
-// The lowest such saved argument, or n.
-fn first_control(
-    control: &[u32],
-    n: usize,
-    heap: &[u32],
-    h: usize,
-    work: &[u32],
-    total: u32,
-) -> usize
-    requires { (h ≤ length heap.now) × Low h work.now × (fixed + n ≤ length control.now) × ((i : ℕ) → i < n → Within h heap.now (argument control.now 0 i)) }
-    ensures { (firsts : ℕ → Bool) → Tallied firsts heap.now h work.now total → ((i : ℕ) → i < n → Owned firsts (argument control.now 0 i))
-        → result ≡ first (covers_control firsts heap.now control.now) 0 n }
-{
-    let mut i = 0;
-    while i < n {
-        if covers_first(heap, h, work, total, control[FIXED + i]) {
-            return i;
-        }
-        i += 1;
-    }
-    i
-}
-
-// The lowest such trail entry below t, or t.
-fn first_entry(trail: &[u32], t: usize, work: &[u32]) -> usize
-    requires { Entered trail.now t (length work.now) }
-    ensures { (firsts : ℕ → Bool) (h : ℕ) → Odd firsts h work.now → Entered trail.now t h → result ≡ first (entry_in firsts trail.now) 0 t }
-{
-    let mut i = 0;
-    while i < t {
-        if names_first(work, trail[i]) {
-            return i;
-        }
-        i += 1;
-    }
-    i
+    cells.iter().all(|word| !names_flag(work, *word))
 }
 
 // The refusal at a place.
-fn refuse(area: Area, index: usize) -> Checked
+#[tactic(auto, unfolding(cells::specs::Cells::checked_to, machine::specs::Answers::verdict_of))]
+fn refuse(area: Area, index: usize) -> Result<(), Refusal>
     ensures { checked_to result ≡ refused 17 (in_area area index) }
 {
-    Checked::Refused(Refusal::First(Place { area, index }))
+    Err(Refusal::First(Place { area, index }))
 }
 
-// 17: a cell or a trail entry covers a first cell.
-pub(super) fn find(
-    control: &[u32],
-    n: usize,
-    stack: &[u32],
-    heap: &[u32],
-    h: usize,
-    trail: &[u32],
-    work: &[u32],
-    notes: usize,
-    total: u32,
-) -> Checked
-    requires { Contained control.now n stack.now heap.now h work.now notes × Low h work.now × Entered trail.now (field control.now 0 T) h }
-    ensures { (firsts : ℕ → Bool) → Tallied firsts heap.now h work.now total → Owns firsts control.now n stack.now heap.now h work.now notes
-        → checked_to result ≡ first_of (covered_checks firsts control.now n stack.now heap.now h trail.now work.now notes) }
-{
-    let x = lowest_heap(heap, h, work, total);
-    if x < h {
-        return refuse(Area::Heap, x);
+impl Searched<'_> {
+    // The index of the first of some words, all of them cells, that covers a first cell.
+    #[tactic(auto, unfolding(machine::specs::Layout::field))]
+    fn first_word(self, words: &[u32]) -> Option<usize>
+        requires { (i : ℕ) → i < length words.now → Within (reg (seen self.view) H) self.view.heap.now (get_or words.now i 0) }
+        ensures inside { IfSome result (λ i. i < length words.now) }
+        ensures lowest { let X = seen self.entry.view in (firsts : ℕ → Bool) → Tallied firsts X.heap (reg X H) self.entry.work.now self.entry.total
+            → ((i : ℕ) → i < length words.now → Owned firsts (get_or words.now i 0)) → Lowest (λ i. covers_in firsts X.heap (get_or words.now i 0)) (length words.now) result }
+    {
+        let h = self.view.control[machine::H] as usize;
+        words.iter().position(|word| covers_first(self.view.heap, h, self.work, self.total, *word))
     }
-    let i = first_stack(stack, heap, h, work, notes, total);
-    if i < stack.len() {
-        return refuse(Area::Stack, i);
+
+    // The index of the first heap cell below H that does. Where structures lie apart no STRUCT is in question, and one pass without a branch
+    // decides whether there is any.
+    #[tactic(auto, unfolding(machine::specs::Layout::field))]
+    fn lowest_heap(self) -> Option<usize>
+        ensures { let X = seen self.entry.view in (firsts : ℕ → Bool) → Telling firsts X self.entry.work.now (length X.heap) self.entry.total
+            → Lowest (covers_heap firsts X.heap) (reg X H) result }
+    {
+        let cells = &self.view.heap[..self.view.control[machine::H] as usize];
+        if self.total == 0 && heap_off(cells, self.work) {
+            return None;
+        }
+        self.first_word(cells)
     }
-    let a = first_control(control, n, heap, h, work, total);
-    if a < n {
-        return refuse(Area::Control, FIXED + a);
+
+    // The index of the first of the stack's cells that does.
+    #[tactic(auto, unfolding(machine::specs::Layout::field))]
+    fn first_stack(self) -> Option<usize>
+        ensures { let X = seen self.entry.view in (firsts : ℕ → Bool) → Telling firsts X self.entry.work.now (length X.heap) self.entry.total
+            → Lowest (covers_stack firsts X.heap X.stack self.entry.work.now (length X.heap)) (length X.stack) result }
+    {
+        let view = self.view;
+        let h = view.control[machine::H] as usize;
+        (0..view.stack.len()).find(|&i| {
+            self.work[view.heap.len() + i] == CELL
+                && covers_first(view.heap, h, self.work, self.total, view.stack[i])
+        })
     }
-    let t = control[machine::T] as usize;
-    let e = first_entry(trail, t, work);
-    if e < t {
-        return refuse(Area::Trail, e);
+
+    // The index of the first trail entry below T that names a first cell.
+    #[tactic(auto, unfolding(machine::specs::Layout::field, crate::specs::Functors::entry_in))]
+    fn first_entry(self) -> Option<usize>
+        ensures { let X = seen self.entry.view in (firsts : ℕ → Bool) → Odd firsts (reg X H) self.entry.work.now → Lowest (entry_in firsts X.trail) (reg X T) result }
+    {
+        let t = self.view.control[machine::T] as usize;
+        (0..t).find(|&i| names_first(self.work, self.view.trail[i]))
     }
-    Checked::Passed
+
+    // 17: a cell or a trail entry covers a first cell.
+    #[tactic(auto, unfolding(machine::specs::Layout::field))]
+    pub(super) fn find(self) -> Result<(), Refusal>
+        ensures { let X = seen self.entry.view in (firsts : ℕ → Bool) → Telling firsts X self.entry.work.now (length X.heap) self.entry.total
+            → checked_to result ≡ first_of (covered_checks firsts X self.entry.work.now (length X.heap)) }
+    {
+        if let Some(x) = self.lowest_heap() {
+            return refuse(Area::Heap, x);
+        }
+        if let Some(i) = self.first_stack() {
+            return refuse(Area::Stack, i);
+        }
+        let n = self.view.control[machine::N] as usize;
+        if let Some(a) = self.first_word(&self.view.control[FIXED..FIXED + n]) {
+            return refuse(Area::Control, FIXED + a);
+        }
+        if let Some(e) = self.first_entry() {
+            return refuse(Area::Trail, e);
+        }
+        Ok(())
+    }
 }

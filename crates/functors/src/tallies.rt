@@ -16,8 +16,7 @@ fn apart(heap: &[u32], h: usize, work: &[u32]) -> bool
     ensures { result ≡ true → Apart heap.now h work.now }
 {
     let mut free = 0;
-    let mut x = 0;
-    while x < h {
+    for x in 0..h {
         let flag = work[x];
         let end = x + 1 + cell::arity(heap[x]) as usize;
         let from = chosen(flag, free, x);
@@ -25,7 +24,6 @@ fn apart(heap: &[u32], h: usize, work: &[u32]) -> bool
             return false;
         }
         free = chosen(flag, free, end);
-        x += 1;
     }
     true
 }

@@ -5,6 +5,8 @@ ghost use Rattle.cell.specs.Word.{VAR, LIST, tag_of, value_of, stack_base, in_he
 ghost use Rattle.counts.specs.Counts.{Low};
 ghost use Rattle.functors.specs.Functors.{covers_in, Within, Odd, Tallied, Owned, Off};
 
+use cell::Tag;
+
 // Whether the heap cell x is counted.
 fn counted(work: &[u32], x: usize) -> bool
     requires { x < length work.now }
@@ -18,11 +20,7 @@ pub(super) fn names_first(work: &[u32], address: u32) -> bool
     requires { address < stack_base → address < length work.now }
     ensures { (firsts : ℕ → Bool) (h : ℕ) → Odd firsts h work.now → (address < stack_base → address < h) → result ≡ (in_heap address && firsts address) }
 {
-    if address < cell::STACK_BASE {
-        let x = address as usize;
-        return counted(work, x);
-    }
-    false
+    address < cell::STACK_BASE && counted(work, address as usize)
 }
 
 // Whether a first cell is among the cells that a word refers to, a STRUCT's own not counted.
@@ -30,26 +28,18 @@ pub(super) fn covers_first(heap: &[u32], h: usize, work: &[u32], total: u32, wor
     requires { (h ≤ length heap.now) × Low h work.now × Within h heap.now word }
     ensures { (firsts : ℕ → Bool) → Tallied firsts heap.now h work.now total → Owned firsts word → result ≡ covers_in firsts heap.now word }
 {
-    let tag = cell::tag(word);
-    if tag == cell::CONST {
-        return false;
-    }
     let v = cell::value(word);
-    if tag == cell::VAR {
-        return names_first(work, v);
-    }
     let x = v as usize;
-    if tag == cell::LIST {
-        if counted(work, x) {
-            return true;
+    match Tag::of(word) {
+        Tag::Const => false,
+        Tag::Var => names_first(work, v),
+        Tag::List => counted(work, x) || counted(work, x + 1),
+        Tag::Struct if total == 0 => false,
+        Tag::Struct => {
+            let end = v + 1 + cell::arity(heap[x]);
+            counts::boundary(work, h, total, v + 1) != counts::boundary(work, h, total, end)
         }
-        return counted(work, x + 1);
     }
-    if total == 0 {
-        return false;
-    }
-    let arity = cell::arity(heap[x]);
-    counts::boundary(work, h, total, v + 1) != counts::boundary(work, h, total, v + 1 + arity)
 }
 
 // Whether a VAR or a LIST of the heap covers a flagged cell; a STRUCT or a CONST is looked up at 0 in vain. Tags cannot be guessed, so none
@@ -58,18 +48,12 @@ pub(super) fn names_flag(work: &[u32], word: u32) -> bool
     requires { (0 < length work.now) × (tag_of word ≡ VAR → value_of word < length work.now) × (tag_of word ≡ LIST → value_of word + 1 < length work.now) }
     ensures { result ≡ false → Off work.now word }
 {
-    let tag = cell::tag(word);
+    let tag = cell::tag_number(word);
     let v = cell::value(word);
     let a = if tag % 2 == 0 { v } else { 0 };
     let second = if tag == cell::LIST { 1 } else { 0 };
     let most = if tag % 2 == 0 { 0 } else { 1 };
     let x = a as usize;
-    if work[x] > most {
-        return true;
-    }
     let y = (a + second) as usize;
-    if work[y] > most {
-        return true;
-    }
-    false
+    work[x] > most || work[y] > most
 }

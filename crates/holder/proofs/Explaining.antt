@@ -24,9 +24,11 @@ use Rattle.queue.specs.Filled.{met_bit, root_count, Filled}
 use Rattle.collect.specs.Phases.{Reachable}
 use Rattle.collect.proofs.Marking.{markable}
 use Rattle.collect.proofs.Sliding.{noted-same}
-use Rattle.holder.specs.declared.Why.{Why}
-use Rattle.holder.specs.declared.Why.TheVariants as why
-use Rattle.holder.specs.Answers.{held, dead, said_of, Outcome, no_cell, is_dead, room_short, is_held}
+use Rattle.std.specs.Prelude.{Some, None, Result, Ok, Err}
+use Rattle.holder.specs.declared.Held.{Held}
+use Rattle.holder.specs.declared.Untold.{Untold}
+use Rattle.holder.specs.declared.Untold.TheVariants as untold
+use Rattle.holder.specs.Answers.{Told, held, dead, said_of, Outcome, no_cell, is_dead, room_short, is_held}
 use Rattle.holder.specs.Tracing.{entry_at, HasFunctor, Searched, Answered, short, found, Holds, Explained}
 use Rattle.holder.proofs.Paths.{trace-path}
 use Rattle.holder.proofs.Roots.{roots-of, root_stands}
@@ -75,12 +77,17 @@ module _ {control stack heap work work' : List ℕ} {tail : ℕ} (m : Markable c
         there = f.entries p.0 low ∙ p.2;
       }
 
-module _ {X : Image} {work work' : List ℕ} {tail : ℕ} (r : Reachable X work) (f : Filled X.control X.stack X.heap work work' tail) where
-  can-mark : Markable X.control X.stack X.heap work
-  can-mark = markable r.accepted r.noted r.room r.blank
+-- what is answered of a cell that the search has met
+abbrev pub told : Result Held Untold → Told
+told (Ok h) = Ok (Some h)
+told (Err e) = Err e
 
+pub can-mark : {X : Image} {work : List ℕ} → Reachable X work → Markable X.control X.stack X.heap work
+can-mark r = markable r.accepted r.noted r.room r.blank
+
+module _ {X : Image} {work work' : List ℕ} {tail : ℕ} (r : Reachable X work) (f : Filled X.control X.stack X.heap work work' tail) where
   noted-after : Noted X work' (length X.heap)
-  noted-after = noted-same work' (length X.heap) (notes-stay can-mark f) r.noted
+  noted-after = noted-same work' (length X.heap) (notes-stay (can-mark r) f) r.noted
 
   -- the cell at place j is x: so the path of the queue to it is the best chain to x
   best-at : {j s x : ℕ} {area : Area} {index : ℕ} {path : List ℕ} → j < tail → entry_at work' j ≡ x → Path (root_count X.control X.stack) f.cells f.from j s path
@@ -93,8 +100,8 @@ module _ {X : Image} {work work' : List ℕ} {tail : ℕ} (r : Reachable X work)
   pub not-met-dead : {lent x : ℕ} {room : List ℕ} → verdict lent X ≡ accepted → x < reg X H → (met_bit (get_or work' x 0) ≡ 1 → ⊥) → Outcome X lent x room dead room
   not-met-dead {x = x} v l n = is_dead v l (λ h. n ((f.met x l).1 (reached-met (roots-of r.accepted r.noted) f.queued h)))
 
-  pub answered-outcome : {lent x j : ℕ} {room : List ℕ} {answer : Why} {room' : List ℕ} → verdict lent X ≡ accepted → x < reg X H → j < tail → entry_at work' j ≡ x
-      → Answered X.control X.stack X.heap work' j room answer room' → Outcome X lent x room (said_of answer) room'
+  pub answered-outcome : {lent x j : ℕ} {room : List ℕ} {answer : Result Held Untold} {room' : List ℕ} → verdict lent X ≡ accepted → x < reg X H → j < tail → entry_at work' j ≡ x
+      → Answered X.control X.stack X.heap work' j room answer room' → Outcome X lent x room (said_of (told answer)) room'
   unfolding said_of
   answered-outcome {j = j} v l o e (short s) =
       let p = path-exists f.queued j (omega (arith, f.count)) in
@@ -106,14 +113,14 @@ module _ {X : Image} {work work' : List ℕ} {tail : ℕ} (r : Reachable X work)
       let n = path-length f.queued f.levelled p.1 in
       subst (λ (k : ℕ). Outcome X lent x room (held root.area root.index k) (path ++ drop (length path) room)) n (is_held v l b (omega arith))
 
-  pub explained-dead : {x : ℕ} {room : List ℕ} → x < reg X H → (met_bit (get_or work' x 0) ≡ 1 → ⊥) → Explained X x room work work' why.Dead room
+  pub explained-dead : {x : ℕ} {room : List ℕ} → x < reg X H → (met_bit (get_or work' x 0) ≡ 1 → ⊥) → Explained X x room work work' (Ok None) room
   unfolding said_of
   explained-dead l n = record { outcome = λ lent v. not-met-dead v l n; rest = f.rest; same = f.same }
 
-  pub explained-held : {x : ℕ} {room : List ℕ} {answer : Why} {room' : List ℕ} → x < reg X H → Holds X.control X.stack X.heap work' tail x room answer room'
-      → Explained X x room work work' answer room'
+  pub explained-held : {x : ℕ} {room : List ℕ} {answer : Result Held Untold} {room' : List ℕ} → x < reg X H → Holds X.control X.stack X.heap work' tail x room answer room'
+      → Explained X x room work work' (told answer) room'
   explained-held l h = record { outcome = λ lent v. answered-outcome v l h.low h.there h.answered; rest = f.rest; same = f.same }
 
-pub explained-none : {X : Image} {x : ℕ} {room work : List ℕ} → reg X H ≤ x → Explained X x room work work why.NoCell room
+pub explained-none : {X : Image} {x : ℕ} {room work : List ℕ} → reg X H ≤ x → Explained X x room work work (Err untold.NoCell) room
 unfolding said_of
 explained-none l = record { outcome = λ lent v. no_cell v l; rest = refl; same = refl }

@@ -1,5 +1,6 @@
 pub mod Levels
 pub mod Seeks
+pub mod Ranges
 pub mod Tracing
 pub mod Holding
 pub mod Paths

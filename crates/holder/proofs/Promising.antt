@@ -1,4 +1,5 @@
 -- What `why_held` promises: a refused image is answered by its refusal, and an admitted one by its explanation. Assumes nothing.
+use Rattle.std.specs.Prelude.{Ok, Err}
 use Prim.Native.Nat.{ℕ}
 use mathlib.Core.Path.{◌≡◌, sym, ◌∙◌, subst}
 use mathlib.Core.Logic.{◌≢◌}
@@ -12,17 +13,15 @@ use Rattle.machine.proofs.Verdicts.{verdict-iff, accepted-enough}
 use Rattle.machine.proofs.Injective.{refusal-refuses}
 use Rattle.machine.proofs.Works.{cleared_to, lent-cleared}
 use Rattle.machine.proofs.Parts.{rest-later}
-use Rattle.cells.specs.declared.Checked.TheVariants.{Passed, Refused}
 use Rattle.cells.specs.Cells.{checked_to}
 use Rattle.admit.specs.Admits.{Admits}
 use Rattle.collect.proofs.Collecting.{passes}
-use Rattle.holder.specs.declared.Why.{Why}
-use Rattle.holder.specs.declared.Why.TheVariants as why
-use Rattle.holder.specs.Answers.{refusal, said_of, Outcome, refused_image, Explains}
+use Rattle.holder.specs.declared.Untold.TheVariants as untold
+use Rattle.holder.specs.Answers.{Told, refusal, said_of, Outcome, refused_image, Explains}
 use Rattle.holder.specs.Tracing.{Explained}
 
 module _ {X : Image} {work work' : List ℕ} {x : ℕ} {room : List ℕ} where
-  pub explains-refused : {r : Refusal} → Admits X work (Refused r) work' → Explains X work x room (why.Refused r) work' room
+  pub explains-refused : {r : Refusal} → Admits X work (Err r) work' → Explains X work x room (Err (untold.Image r)) work' room
   unfolding checked_to said_of
   explains-refused {r} a =
       let no : verdict (length work) X ≢ accepted = λ e. refusal-refuses r (a.gives ∙ e) in
@@ -31,7 +30,7 @@ module _ {X : Image} {work work' : List ℕ} {x : ℕ} {room : List ℕ} where
         cleared = a.refused no;
       }
 
-  pub explains-passed : Admits X work Passed work' → {work'' room' last : List ℕ} {r : Why} → Explained X x room work' work'' r room' → last ≡ cleared_to X work'' → Explains X work x room r last room'
+  pub explains-passed : Admits X work (Ok tt) work' → {work'' room' last : List ℕ} {r : Told} → Explained X x room work' work'' r room' → last ≡ cleared_to X work'' → Explains X work x room r last room'
   explains-passed a {work''} e q =
       let v = (verdict-iff (length work) X).0 (passes a) in
       let behind : drop (work_words X) work'' ≡ drop (work_words X) work = rest-later (reg X H) work'' work' e.rest (work_words X) (omega (arith, v.0.fits.heap)) ∙ (a.passed (passes a)).rest in

@@ -1,23 +1,22 @@
 -- The roots that the search reads are those of the image, and the root that is found is the one that the chain starts from: the first that refers
 -- to its first cell. Assumes nothing.
-use Prim.Native.Nat.{ℕ, ◌+◌, ◌<◌, ◌≤◌}
-use mathlib.Core.Path.{◌≡◌, sym, ◌∙◌, subst}
+use Prim.Native.Nat.{ℕ, ◌<◌}
+use mathlib.Core.Path.{◌≡◌, sym, ◌∙◌}
 use mathlib.Core.Logic.{inl, inr}
 use mathlib.Core.Bool.{true}
 use mathlib.Core.List.{List}
-use native.Mathlib.Omega.{arith}
-use native.Mathlib.Decide.{dec_lt}
 use borrow.Author.Tests.{eqb-true, eq-eqb}
 use lib.ListN.{length, get_or}
 use lib.Dec.{eqb}
 use Rattle.cell.specs.Word.{Refers}
-use Rattle.machine.specs.declared.Area.TheVariants.{Stack, Control}
+use Rattle.machine.specs.declared.Area.TheVariants.{Stack}
 use Rattle.machine.specs.declared.Place.{Place}
-use Rattle.machine.specs.Layout.{Image, N, fixed, reg, argument, word}
+use Rattle.machine.specs.Layout.{Image, N, reg, argument, word}
 use Rattle.machine.specs.Roles.{cell, code_of, note_at, is_cell}
-use Rattle.machine.specs.Refusals.{first}
+use Rattle.std.specs.Prelude.{Option, Some, None}
+use Rattle.std.specs.Option.{unwrap_or}
+use Rattle.machine.specs.Lowest.{Lowest}
 use Rattle.machine.proofs.Tests.{true-false, same_bool, and-true, and_left, and_right}
-use Rattle.machine.proofs.Firsts.{first-before, first-bad}
 use Rattle.machine.proofs.Chains.{role-low}
 use Rattle.machine.proofs.Roles.{has-is}
 use Rattle.machine.proofs.Accepted.{Accepted}
@@ -26,8 +25,8 @@ use Rattle.order.specs.Queue.{Queued, Path}
 use Rattle.order.proofs.Roots.{RootsOf, Stands, roots-by}
 use Rattle.order.proofs.Searches.{root-cases, root-saved, root-cell}
 use Rattle.queue.specs.Filled.{root_word, root_count}
-use Rattle.holder.specs.Tracing.{refers_to, argument_refers, cell_refers, FirstRoot}
-use Rattle.holder.proofs.Seeks.{refers-true, true-refers, first-least}
+use Rattle.holder.specs.Tracing.{refers_to, argument_refers, cell_refers, FirstRoot, in_control, on_stack}
+use Rattle.holder.proofs.Seeks.{refers-true, true-refers}
 
 module _ {X : Image} (a : Accepted X) {work : List ℕ} (noted : Noted X work (length X.heap)) where
   noted-cell : (i : ℕ) → i < length X.stack → eqb (note_at work (length X.heap) i) (code_of cell) ≡ is_cell X i
@@ -67,39 +66,22 @@ module _ {X : Image} (a : Accepted X) {work : List ℕ} (noted : Noted X work (l
 
   -- ---- the root that is found
 
-  module _ {word : ℕ → ℕ} {roots : ℕ} (o : RootsOf X word roots) {cells from : List ℕ} (q : Queued X.heap word roots cells from) where
-    -- a saved argument
-    in_control_lem : {j r : ℕ} {path : List ℕ} → Path roots cells from j r path → first (argument_refers X.control X.heap (get_or path 0 0)) 0 (reg X N) < reg X N
-        → Stands X r Control (fixed + first (argument_refers X.control X.heap (get_or path 0 0)) 0 (reg X N))
-    in_control_lem {path = path} p l =
-        let x = get_or path 0 0 in
-        let test = argument_refers X.control X.heap x in
-        let i = first test 0 (reg X N) in
-        root-saved o q p i l (test-argument x i (first-bad test 0 (reg X N) (omega arith))) (λ k m h. true-false (argument-test x k h) (first-before test 0 (reg X N) k (omega arith) m))
+  module _ {word : ℕ → ℕ} {roots : ℕ} (o : RootsOf X word roots) {cells from : List ℕ} (q : Queued X.heap word roots cells from) {j r : ℕ} {path : List ℕ} (p : Path roots cells from j r path) where
+    abbrev x : ℕ
+    x = get_or path 0 0
 
     -- else a cell of the stack
-    on-stack : {j r : ℕ} {path : List ℕ} → Path roots cells from j r path → reg X N ≤ first (argument_refers X.control X.heap (get_or path 0 0)) 0 (reg X N)
-        → Stands X r Stack (first (cell_refers X.stack X.heap work (get_or path 0 0)) 0 (length X.stack))
-    on-stack {path = path} p n =
-        let x = get_or path 0 0 in
-        let test = cell_refers X.stack X.heap work x in
-        let i = first test 0 (length X.stack) in
-        let none : (k : ℕ) → k < reg X N → Refers X.heap (argument X.control 0 k) x → ⊥ = λ k m h.
-        omega (arith, first-least (argument_refers X.control X.heap x) (reg X N) k (argument-test x k h)) in
+    stands-on : Lowest (argument_refers X.control X.heap x) (reg X N) None → (found : Option ℕ) → Lowest (cell_refers X.stack X.heap work x) (length X.stack) found
+        → Stands X r Stack (unwrap_or found (length X.stack))
+    stands-on n None m =
         elim (root-cases o q p) [
-          | inl t ↦ absurd (none t.0 t.1 t.2)
-          | inr t ↦
-              let l : i < length X.stack = omega (arith, t.1, first-least test (length X.stack) t.0 (cell-test x t.0 t.2 t.3)) in
-              let h = test-cell x i l (first-bad test 0 (length X.stack) (omega arith)) in
-              root-cell o q p none i h.0 h.1 (λ k m c r. true-false (cell-test x k c r) (first-before test 0 (length X.stack) k (omega arith) m))
+          | inl t ↦ true-false (argument-test x t.0 t.2) (n t.0 t.1)
+          | inr t ↦ true-false (cell-test x t.0 t.2 t.3) (m t.0 t.1)
         ]
+    stands-on n (Some i) m =
+        let h = test-cell x i m.0 m.1 in
+        root-cell o q p (λ k l t. true-false (argument-test x k t) (n k l)) i h.0 h.1 (λ k l c t. true-false (cell-test x k c t) (m.2 k l))
 
-    pub root_stands : {j r : ℕ} {path : List ℕ} {root : Place} → Path roots cells from j r path → FirstRoot X.control X.stack X.heap work (get_or path 0 0) root
-        → Stands X r root.area root.index
-    root_stands {r = r} {path = path} p f =
-        elim (dec_lt (first (argument_refers X.control X.heap (get_or path 0 0)) 0 (reg X N)) (reg X N)) [
-          | yes l ↦ subst (λ (place : Place). Stands X r place.area place.index) (sym (f.in_control l)) (in_control_lem p l)
-          | no l ↦
-              let n : reg X N ≤ first (argument_refers X.control X.heap (get_or path 0 0)) 0 (reg X N) = omega arith in
-              subst (λ (place : Place). Stands X r place.area place.index) (sym (f.on_stack n)) (on-stack p n)
-        ]
+    pub root_stands : {root : Place} → FirstRoot X.control X.stack X.heap work x root → Stands X r root.area root.index
+    root_stands (in_control {k = k} l) = root-saved o q p k l.0 (test-argument x k l.1) (λ i m h. true-false (argument-test x i h) (l.2 i m))
+    root_stands (on_stack found n m) = stands-on n found m

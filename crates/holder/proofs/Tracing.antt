@@ -9,22 +9,15 @@ use native.Mathlib.Numerals.{add-one}
 use native.Mathlib.Decide.{dec_lt}
 use lib.ListN.{length, get_or, take, drop, set, length-set, take-append-drop}
 use lib.Seq.{take-suc, append_snoc, set_at, length-take-le}
-use Rattle.machine.specs.Layout.{heap_most}
-use Rattle.machine.specs.Refusals.{first}
+use Rattle.std.specs.Prelude.{Option, Some, None, IsSome}
+use Rattle.machine.specs.Lowest.{Lowest}
+use Rattle.machine.proofs.Tests.{true-false}
 use Rattle.order.specs.Levels.{Starts, levels}
 use Rattle.order.proofs.Levels.{starts-count, starts-back}
 use Rattle.queue.specs.Filled.{begins_at}
-use Rattle.holder.specs.Tracing.{entry_at, parent_from, Places, Traceable, Trace, alone, after, Traced}
+use Rattle.holder.specs.Tracing.{entry_at, parent_from, Traceable, Trace, alone, after, Traced}
 use Rattle.holder.proofs.Levels.{levels-begun, levels-later}
-use Rattle.holder.proofs.Seeks.{refers-true, first-least}
-
--- the same of fewer places
-pub places-part : {heap work : List ℕ} {m n : ℕ} → Places heap work n → m ≤ n → Places heap work m
-places-part p l = record {
-  room = omega (arith, p.room);
-  inside = λ i q. p.inside i (omega arith);
-  functor = λ i q. p.functor i (omega arith);
-}
+use Rattle.holder.proofs.Seeks.{refers-true}
 
 -- what stands in the room when a cell is put before what is written
 pub written-more : (room : List ℕ) (k x : ℕ) (written : List ℕ) → k < length room → set (take (k + 1) room ++ written) k x ≡ take k room ++ (x ∷ written)
@@ -63,10 +56,6 @@ tracing-none {heap} {work} {j} {n} {level} room s e =
     }
 
 module _ {heap work : List ℕ} {j n : ℕ} {room₀ room : List ℕ} {x level left : ℕ} (t : Tracing heap work j n room₀ room x level left) (able : Traceable heap work (suc j)) where
-  -- the cell is one of the heap's
-  pub cell-small : x < heap_most
-  cell-small = omega (arith, t.here, able.places.inside t.at (omega (arith, t.low)), able.small)
-
   -- while cells are left there is a level above
   pub level-above : 0 < left → 0 < level
   level-above l = levels-later (begins_at work) level (omega (arith, t.depth))
@@ -78,34 +67,33 @@ module _ {heap work : List ℕ} {j n : ℕ} {room₀ room : List ℕ} {x level l
         | no l ↦ omega arith
       ]
 
-  -- its first cell that refers to x is one of its cells
-  pub parent_above : {a p : ℕ} → 0 < left → Starts (begins_at work) a (level - 1) → first (parent_from heap work a x) 0 (level - a) ≡ p → p < level - a
+  -- and a cell there that refers to x
+  pub parent_there : {a : ℕ} (r : Option ℕ) → 0 < left → Starts (begins_at work) a (level - 1) → Lowest (parent_from heap work a x) (level - a) r → IsSome r
   unfolding parent_from
-  parent_above {a} {p} l s e =
+  parent_there (Some p) l s f = refl
+  parent_there {a} None l s f =
       let h = able.parents a level t.at (omega (arith, t.low)) t.starts (level-above l) s in
       let back : a + (h.at - a) ≡ h.at = omega (arith, h.low) in
       let refers : parent_from heap work a (entry_at work t.at) (h.at - a) ≡ true = rw back (refers-true heap (get_or heap (entry_at work h.at) 0) (entry_at work t.at) h.refers) in
-      let least = first-least (parent_from heap work a x) (level - a) (h.at - a) (subst (λ (y : ℕ). parent_from heap work a y (h.at - a) ≡ true) (sym t.here) refers) in
-      omega (arith, h.low, h.high)
+      true-false (subst (λ (y : ℕ). parent_from heap work a y (h.at - a) ≡ true) (sym t.here) refers) (f (h.at - a) (omega (arith, h.low, h.high)))
 
-  pub tracing-more : {a p : ℕ} → 0 < left → left < length room₀ → Starts (begins_at work) a (level - 1) → first (parent_from heap work a x) 0 (level - a) ≡ p
+  pub tracing-more : {a p : ℕ} → 0 < left → left < length room₀ → Starts (begins_at work) a (level - 1) → Lowest (parent_from heap work a x) (level - a) (Some p)
       → Tracing heap work j n room₀ (set room left x) (entry_at work (a + p)) a (left - 1)
   tracing-more {a} {p} l m s e =
-      let below = parent_above l s e in
       let high = level-above l in
       let back : suc (level - 1) ≡ level = omega arith in
       let whole : left - 1 + 1 ≡ left = omega arith in
       record {
         at = a + p;
-        low = omega (arith, t.low, t.starts.low);
+        low = omega (arith, t.low, t.starts.low, e.0);
         here = refl;
-        starts = starts-back (a + p) s (omega arith) (omega arith);
+        starts = starts-back (a + p) s (omega arith) (omega (arith, e.0));
         depth = omega (arith, starts-count s, ap (levels (begins_at work)) back, t.depth);
         rest = x ∷ t.rest;
         size = omega (arith, t.size);
         goes = λ path q.
-            let found = subst (λ (y : ℕ). first (parent_from heap work a y) 0 (level - a) ≡ p) t.here e in
-            let longer = subst (λ (y : ℕ). Trace heap work t.at (path ++ (y ∷ []))) (sym t.here) (after t.starts high s found below q) in
+            let found = subst (λ (y : ℕ). Lowest (parent_from heap work a y) (level - a) (Some p)) t.here e in
+            let longer = subst (λ (y : ℕ). Trace heap work t.at (path ++ (y ∷ []))) (sym t.here) (after t.starts high s found q) in
             subst (Trace heap work j) (append_snoc path x t.rest) (t.goes (path ++ (x ∷ [])) longer);
         written = rw (t.written, whole) (written-more room₀ left x (t.rest ++ drop n room₀) m);
         same = simp length-set t.same;

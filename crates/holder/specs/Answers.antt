@@ -1,12 +1,13 @@
 -- What `why_held` answers and promises. Document 02, order 4. Assumes nothing.
-use Rattle.std.specs.Prelude.{ℕ, ◌<◌, ◌≤◌, ◌≡◌, ◌≢◌, List, ◌++◌, length, drop}
+use Rattle.std.specs.Prelude.{ℕ, ◌<◌, ◌≤◌, ◌≡◌, ◌≢◌, List, ◌++◌, length, drop, Option, Some, None, Result, Ok, Err}
 use Rattle.machine.specs.declared.Area.{Area}
 use Rattle.machine.specs.Layout.{Image, H, reg}
 use Rattle.machine.specs.Reached.{Reached}
 use Rattle.machine.specs.Refusals.{nowhere, Verdict, accepted, refused, verdict}
 use Rattle.machine.specs.Answers.{verdict_of, work_after}
-use Rattle.holder.specs.declared.Why.{Why}
-use Rattle.holder.specs.declared.Why.TheVariants as why
+use Rattle.holder.specs.declared.Held.{Held}
+use Rattle.holder.specs.declared.Untold.{Untold}
+use Rattle.holder.specs.declared.Untold.TheVariants as untold
 use Rattle.order.specs.Chains.{Best}
 
 -- "the root stands in the answer", and with it the chain's length
@@ -23,12 +24,15 @@ abbrev pub long : Verdict
 long = refused 19 nowhere
 
 -- what each case of the answer says
-unfoldable pub said_of : Why → Said
-said_of (why.Held root length) = held root.area root.index length
-said_of why.Dead = dead
-said_of why.NoCell = refusal above
-said_of why.RoomShort = refusal long
-said_of (why.Refused r) = refusal (verdict_of r)
+abbrev pub Told : Type 0
+Told = Result (Option Held) Untold
+
+unfoldable pub said_of : Told → Said
+said_of (Ok (Some h)) = held h.root.area h.root.index h.length
+said_of (Ok None) = dead
+said_of (Err untold.NoCell) = refusal above
+said_of (Err untold.RoomShort) = refusal long
+said_of (Err (untold.Image r)) = refusal (verdict_of r)
 
 -- what is said of the cell x, and the room afterwards. "Exactly the cells that no chain reaches are answered as dead. The lent room takes the heap
 -- indexes; .. the rest of the room stays. Refusals: the collector's; then 18 ..; then 19 ... no refusal [changes] the room."
@@ -42,6 +46,6 @@ pub data Outcome (X : Image) (lent x : ℕ) (room : List ℕ) : Said → List �
       → length cells ≤ length room → Outcome X lent x room (held area index (length cells)) (cells ++ drop (length cells) room)
 
 -- What `why_held` promises, of every image X, lent work, cell x and lent room. "No call changes an area": none is lent to be written.
-pub record Explains (X : Image) (work : List ℕ) (x : ℕ) (room : List ℕ) (r : Why) (work' room' : List ℕ) : Type 0 where
+pub record Explains (X : Image) (work : List ℕ) (x : ℕ) (room : List ℕ) (r : Told) (work' room' : List ℕ) : Type 0 where
   pub outcome : Outcome X (length work) x room (said_of r) room'
   pub cleared : work' ≡ work_after X work

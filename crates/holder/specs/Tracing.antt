@@ -1,16 +1,20 @@
 -- The chain to a cell as it is traced back through the queue, and the root that is looked for: what the parts need and leave. Assumes nothing.
 use Rattle.std.specs.Prelude.{ℕ, suc, ◌+◌, ◌-◌, ◌<◌, ◌≤◌, ◌≡◌, Bool, ◌&&◌, List, [], ◌∷◌, ◌++◌, length, get_or, drop, eqb, leb, ltb}
+use Rattle.std.specs.Prelude.{Option, Some, None, Result, Ok, Err}
+use Rattle.std.specs.Option.{unwrap_or}
 use Rattle.cell.specs.Word.{STRUCT, value_of, tag_of, extent, Refers}
 use Rattle.machine.specs.declared.Area.TheVariants.{Stack, Control}
 use Rattle.machine.specs.declared.Place.{Place}
 use Rattle.machine.specs.Layout.{Image, H, N, fixed, reg, field, argument, heap_most}
 use Rattle.machine.specs.Roles.{cell, code_of, note_at}
-use Rattle.machine.specs.Refusals.{accepted, first, verdict}
+use Rattle.machine.specs.Refusals.{accepted, verdict}
+use Rattle.machine.specs.Lowest.{Lowest}
 use Rattle.order.specs.Levels.{Starts, levels}
 use Rattle.queue.specs.Filled.{entry_of, begins_at}
-use Rattle.holder.specs.declared.Why.{Why}
-use Rattle.holder.specs.declared.Why.TheVariants as why
-use Rattle.holder.specs.Answers.{said_of, Outcome}
+use Rattle.holder.specs.declared.Held.{Held}
+use Rattle.holder.specs.declared.Untold.{Untold}
+use Rattle.holder.specs.declared.Untold.TheVariants as untold
+use Rattle.holder.specs.Answers.{Told, said_of, Outcome}
 
 -- the cell at place j of the queue
 abbrev pub entry_at : List ℕ → ℕ → ℕ
@@ -65,7 +69,7 @@ pub record Traceable (heap work : List ℕ) (n : ℕ) : Type 0 where
 pub data Trace (heap work : List ℕ) : ℕ → List ℕ → Type 0 where
   alone : {j : ℕ} → Starts (begins_at work) 0 j → Trace heap work j (entry_at work j ∷ [])
   after : {a b i j : ℕ} {path : List ℕ} → Starts (begins_at work) b j → 0 < b → Starts (begins_at work) a (b - 1)
-      → first (parent_from heap work a (entry_at work j)) 0 (b - a) ≡ i → i < b - a → Trace heap work (a + i) path
+      → Lowest (parent_from heap work a (entry_at work j)) (b - a) (Some i) → Trace heap work (a + i) path
       → Trace heap work j (path ++ (entry_at work j ∷ []))
 
 pub record Traced (heap work : List ℕ) (j : ℕ) (room room' : List ℕ) : Type 0 where
@@ -84,12 +88,11 @@ pub record Cells (stack heap work : List ℕ) : Type 0 where
   pub room : length heap + length stack ≤ length work
   pub functor : (i : ℕ) → i < length stack → note_at work (length heap) i ≡ code_of cell → HasFunctor heap (get_or stack i 0)
 
--- the first root that refers to x, "control before stack"
-pub record FirstRoot (control stack heap work : List ℕ) (x : ℕ) (place : Place) : Type 0 where
-  pub in_control : first (argument_refers control heap x) 0 (field control 0 N) < field control 0 N
-      → place ≡ record { area = Control; index = fixed + first (argument_refers control heap x) 0 (field control 0 N) }
-  pub on_stack : field control 0 N ≤ first (argument_refers control heap x) 0 (field control 0 N)
-      → place ≡ record { area = Stack; index = first (cell_refers stack heap work x) 0 (length stack) }
+-- the first root that refers to x, "control before stack", or the end of the stack
+pub data FirstRoot (control stack heap work : List ℕ) (x : ℕ) : Place → Type 0 where
+  in_control : {k : ℕ} → Lowest (argument_refers control heap x) (field control 0 N) (Some k) → FirstRoot control stack heap work x (record { area = Control; index = fixed + k })
+  on_stack : (found : Option ℕ) → Lowest (argument_refers control heap x) (field control 0 N) None → Lowest (cell_refers stack heap work x) (length stack) found
+      → FirstRoot control stack heap work x (record { area = Stack; index = unwrap_or found (length stack) })
 
 -- ---- both together
 
@@ -103,14 +106,14 @@ pub record Searched (control stack heap work : List ℕ) (tail x : ℕ) : Type 0
   pub there : entry_at work at ≡ x
 
 -- the answer and the room for a cell at place j of the queue: the chain has as many cells as levels begin up to there
-pub data Answered (control stack heap work : List ℕ) (j : ℕ) (room : List ℕ) : Why → List ℕ → Type 0 where
-  short : length room < levels (begins_at work) (suc j) → Answered control stack heap work j room why.RoomShort room
+pub data Answered (control stack heap work : List ℕ) (j : ℕ) (room : List ℕ) : Result Held Untold → List ℕ → Type 0 where
+  short : length room < levels (begins_at work) (suc j) → Answered control stack heap work j room (Err untold.RoomShort) room
   found : {path : List ℕ} {root : Place} → levels (begins_at work) (suc j) ≤ length room → Trace heap work j path
       → FirstRoot control stack heap work (get_or path 0 0) root
-      → Answered control stack heap work j room (why.Held root (levels (begins_at work) (suc j))) (path ++ drop (length path) room)
+      → Answered control stack heap work j room (Ok (record { root = root; length = levels (begins_at work) (suc j) })) (path ++ drop (length path) room)
 
 -- a place at which x stands, and the answer there
-pub record Holds (control stack heap work : List ℕ) (tail x : ℕ) (room : List ℕ) (r : Why) (room' : List ℕ) : Type 0 where
+pub record Holds (control stack heap work : List ℕ) (tail x : ℕ) (room : List ℕ) (r : Result Held Untold) (room' : List ℕ) : Type 0 where
   pub at : ℕ
   pub low : at < tail
   pub there : entry_at work at ≡ x
@@ -118,7 +121,7 @@ pub record Holds (control stack heap work : List ℕ) (tail x : ℕ) (room : Lis
 
 -- ---- the answer for an image that is admitted
 
-pub record Explained (X : Image) (x : ℕ) (room work work' : List ℕ) (r : Why) (room' : List ℕ) : Type 0 where
+pub record Explained (X : Image) (x : ℕ) (room work work' : List ℕ) (r : Told) (room' : List ℕ) : Type 0 where
   pub outcome : (lent : ℕ) → verdict lent X ≡ accepted → Outcome X lent x room (said_of r) room'
   pub rest : drop (reg X H) work' ≡ drop (reg X H) work
   pub same : length work' ≡ length work

@@ -4,91 +4,93 @@
 mod chain; // chain.rt: the chain, traced back through the queue
 mod root; // root.rt: the root that it starts from
 
-ghost use Rattle.std.specs.Prelude.{List, ℕ};
-ghost use Rattle.mark.specs.Marks.{Markable};
+ghost use Rattle.std.specs.Prelude.{◌≡◌};
+ghost use Rattle.machine.specs.Lent.{seen};
 ghost use Rattle.collect.specs.Phases.{Reachable};
 ghost use Rattle.holder.specs.Answers.{Explains};
 ghost use Rattle.holder.specs.Tracing.{Searched, Holds, Explained};
+ghost use Rattle.holder.specs.declared.Untold.TheVariants as untold;
 
-use cells::Checked;
-use machine::{H, Place, Refusal};
+use machine::{H, Place, Refusal, View};
 
-#[derive(Clone, Copy)]
-pub enum Why {
-    // By the root at this place, through so many heap cells.
-    Held { root: Place, length: usize },
-    Dead,
+// By what a cell is held: the root at this place, through so many heap cells.
+#[derive(Clone, Copy, Debug, PartialEq, Eq)]
+pub struct Held {
+    pub root: Place,
+    pub length: usize,
+}
+
+// Why nothing is told of a cell.
+#[derive(Clone, Copy, Debug, PartialEq, Eq)]
+pub enum Untold {
     // 18: the index is at or above H.
     NoCell,
     // 19: the chain is longer than the room.
     RoomShort,
-    Refused(Refusal),
+    Image(Refusal),
+}
+
+impl From<Refusal> for Untold {
+    ghost from_gives = { λ refusal r. r ≡ untold.Image refusal };
+
+    fn from(refusal: Refusal) -> Untold {
+        Untold::Image(refusal)
+    }
 }
 
 // The answer for a cell that the search has met.
-fn held(
-    control: &[u32],
-    stack: &[u32],
-    heap: &[u32],
+fn held_by(
+    view: View<'_>,
     work: &[u32],
     tail: usize,
     x: usize,
     room: &mut [u32],
-) -> Why
-    requires { Searched control.now stack.now heap.now work.now tail x }
-    ensures { Holds control.now stack.now heap.now work.now tail x room.old result room.new }
+) -> Result<Held, Untold>
+    requires { Searched view.control.now view.stack.now view.heap.now work.now tail x }
+    ensures { Holds view.entry.control.now view.entry.stack.now view.entry.heap.now work.now tail x room.old result room.new }
 {
-    let j = chain::place_of(work, tail, x);
+    let j = chain::place_of(work, tail, x).unwrap();
     let length = chain::depth(work, j);
     if room.len() < length {
-        return Why::RoomShort;
+        return Err(Untold::RoomShort);
     }
-    chain::trace(heap, work, j, length, room);
-    let root = root::root_of(control, stack, heap, work, room[0] as usize);
-    Why::Held { root, length }
+    chain::trace(view.heap, work, j, length, room);
+    let root = root::root_of(view, work, room[0] as usize);
+    Ok(Held { root, length })
 }
 
-// The answer for a cell of an admitted image.
+// The answer for a cell of an admitted image, or nothing for a dead one.
 fn explain(
-    control: &[u32],
-    stack: &[u32],
-    heap: &[u32],
+    view: View<'_>,
     work: &mut [u32],
     x: usize,
     room: &mut [u32],
-) -> Why
-    requires { Markable control.now stack.now heap.now work.old }
-    ensures { (trail : List ℕ) → Reachable (record { control = control.now; stack = stack.now; heap = heap.now; trail = trail }) work.old
-        → Explained (record { control = control.now; stack = stack.now; heap = heap.now; trail = trail }) x room.old work.old work.new result room.new }
+) -> Result<Option<Held>, Untold>
+    requires { Reachable (seen view) work.old }
+    ensures { Explained (seen view.entry) x room.old work.old work.new result room.new }
 {
-    if control[H] as usize <= x {
-        return Why::NoCell;
+    if view.control[H] as usize <= x {
+        return Err(Untold::NoCell);
     }
-    let tail = queue::fill(control, stack, heap, work);
+    let tail = queue::fill(view, work);
     if !queue::is_met(work[x]) {
-        return Why::Dead;
+        return Ok(None);
     }
-    held(control, stack, heap, work, tail, x, room)
+    held_by(view, work, tail, x, room).map(Some)
 }
 
-// Why the heap cell `cell` is held. The areas are only read.
+// Why the heap cell `cell` is held; nothing if it is dead. The areas are only read.
 pub fn why_held(
-    control: &[u32],
-    stack: &[u32],
-    heap: &[u32],
-    trail: &[u32],
+    view: View<'_>,
     work: &mut [u32],
     cell: u32,
     room: &mut [u32],
-) -> Why
-    ensures { Explains (record { control = control.now; stack = stack.now; heap = heap.now; trail = trail.now }) work.old cell room.old result work.new room.new }
+) -> Result<Option<Held>, Untold>
+    ensures { Explains (seen view.entry) work.old cell room.old result work.new room.new }
 {
-    let checked = admit::admit(control, stack, heap, trail, work);
-    if let Checked::Refused(refusal) = checked {
-        return Why::Refused(refusal);
-    }
-    let words = heap.len() + stack.len();
-    let answer = explain(control, stack, heap, work, cell as usize, room);
+    admit::admit(view, work)?;
+    let words = view.heap.len() + view.stack.len();
+    let answer = explain(view, work, cell as usize, room);
     counts::clear(work, 0, words);
     answer
 }

@@ -6,16 +6,15 @@ use mathlib.Core.List.{List, [], ◌∷◌, ◌++◌}
 use native.Mathlib.Omega.{arith}
 use lib.ListN.{length, take, set}
 use lib.Seq.{sets, take_all, length-take-le}
-use Rattle.machine.specs.declared.Counts.{Counts}
 use Rattle.machine.specs.declared.Refusal.{Refusal}
-use Rattle.machine.specs.declared.Collected.TheVariants as collecting
+use Rattle.machine.specs.declared.Collected.{Collected}
 use Rattle.machine.specs.Layout.{Image, fixed}
 use Rattle.machine.specs.declared.Refusal.TheVariants.{Sizes, Registers, Chain, Roles, Bits, Reference, Entry, First, NoChoicePoint, ControlShort}
 use Rattle.machine.specs.Refusals.{Where, nowhere, Verdict, accepted, refused, verdict}
 use Rattle.machine.specs.Answers.{Answer, place_in, verdict_of, answer_of, counted, work_after, Collects}
 use Rattle.freeze.specs.declared.AreaCounts.{AreaCounts}
 use Rattle.freeze.specs.declared.FileRefusal.{FileRefusal}
-use Rattle.freeze.specs.declared.Thawed.TheVariants as thawing
+use Rattle.std.specs.Prelude.{Ok, Err}
 use Rattle.freeze.specs.Verdicts as files
 use Rattle.freeze.specs.Thaw.{counts_in, image_in, filled, front, thaw_verdict, Thaws}
 use Rattle.freeze.specs.RoundTrips.{just_stack}
@@ -92,12 +91,12 @@ module _ (file : List ℕ) (lent : Image) (work : List ℕ) where
   refused-outcome (files.refused number offset) e n = bad_file number offset e
 
   -- a bad file changes nothing
-  pub bad-left : (q : FileRefusal) (left : Image) → Thaws file lent (thawing.Refused q) left → (thaw_verdict lent file ≡ files.verdict_of q) × (left ≡ lent)
+  pub bad-left : (q : FileRefusal) (left : Image) → Thaws file lent (Err q) left → (thaw_verdict lent file ≡ files.verdict_of q) × (left ≡ lent)
   bad-left q left t =
       let e = refused-answer file q t.answer in
       (e, t.areas ∙ ap (λ (v : files.FileVerdict). files.if_accepted v (thawed file lent) lent) e ∙ if_accepted-refusal {A = Image} q _ _)
 
-  outcome-bad : (q : FileRefusal) (left : Image) → Thaws file lent (thawing.Refused q) left
+  outcome-bad : (q : FileRefusal) (left : Image) → Thaws file lent (Err q) left
       → Outcomes file lent work (record { text = file_verdict_text (files.verdict_of q); areas = left; work = work })
   outcome-bad q left t =
       let b = bad-left q left t in
@@ -105,12 +104,12 @@ module _ (file : List ℕ) (lent : Image) (work : List ℕ) where
       (refused-outcome (files.verdict_of q) b.0 (refusal-refuses q))
 
   -- what was collected is what was read, with the counted front of the stack
-  pub taken_is : (n : AreaCounts) (areas : Image) → Thaws file lent (thawing.Areas n) areas → just_stack n.stack areas ≡ taken file lent
+  pub taken_is : (n : AreaCounts) (areas : Image) → Thaws file lent (Ok n) areas → just_stack n.stack areas ≡ taken file lent
   taken_is n areas t =
       let a = thaws-filled file lent n areas t in
       ap (just_stack n.stack) a.3 ∙ ap (λ (m : AreaCounts). just_stack m.stack (filled lent (image_in m file))) a.1
 
-  pub thawed-is : (n : AreaCounts) (areas : Image) → Thaws file lent (thawing.Areas n) areas → areas ≡ thawed file lent
+  pub thawed-is : (n : AreaCounts) (areas : Image) → Thaws file lent (Ok n) areas → areas ≡ thawed file lent
   thawed-is n areas t =
       let a = thaws-filled file lent n areas t in
       a.3 ∙ ap (λ (m : AreaCounts). filled lent (image_in m file)) a.1
@@ -119,18 +118,18 @@ module _ (file : List ℕ) (lent : Image) (work : List ℕ) where
     abbrev leaves : List ℕ → Image → List ℕ → Type 0
     leaves text areas w = Outcomes file lent work (record { text = text; areas = areas; work = w })
 
-    done-by : (v : Verdict) → verdict (length work) (taken file lent) ≡ v → (cells entries : Counts) → Collects (taken file lent) work (collecting.Done cells entries) Y work'
-        → leaves (collected_text (answer_of (collecting.Done cells entries)) Y) (joined (thawed file lent) Y) work'
+    done-by : (v : Verdict) → verdict (length work) (taken file lent) ≡ v → (done : Collected) → Collects (taken file lent) work (Ok done) Y work'
+        → leaves (collected_text (answer_of (Ok done)) Y) (joined (thawed file lent) Y) work'
     unfolding answer_of
-    done-by accepted e cells entries c =
+    done-by accepted e done c =
         let d = c.collected e in
-        subst (λ (w : List ℕ). leaves (collected_text (answer_of (collecting.Done cells entries)) Y) (joined (thawed file lent) Y) w) (sym c.cleared)
+        subst (λ (w : List ℕ). leaves (collected_text (answer_of (Ok done)) Y) (joined (thawed file lent) Y) w) (sym c.cleared)
         (subst (λ (a : Answer). leaves (collected_text a Y) (joined (thawed file lent) Y) (work_after (taken file lent) work)) (sym d.1) (collected Y ok e d.0))
-    done-by (refused number place) e cells entries c =
+    done-by (refused number place) e done c =
         let d = c.refused (λ q. accepted-refused (sym q ∙ e)) in
         absurd (accepted-refused (ap (λ (a : Answer). a.verdict) d.0 ∙ e))
 
-    refused-by : (v : Verdict) → verdict (length work) (taken file lent) ≡ v → (q : Refusal) → Collects (taken file lent) work (collecting.Refused q) Y work'
+    refused-by : (v : Verdict) → verdict (length work) (taken file lent) ≡ v → (q : Refusal) → Collects (taken file lent) work (Err q) Y work'
         → leaves (verdict_text (verdict_of q)) (joined (thawed file lent) Y) work'
     unfolding answer_of counted verdict_text
     refused-by accepted e q c =
@@ -145,47 +144,47 @@ module _ (file : List ℕ) (lent : Image) (work : List ℕ) where
         (subst (λ (v : Verdict). leaves (verdict_text v) (thawed file lent) (work_after (taken file lent) work)) (sym (ap (λ (a : Answer). a.verdict) d.0 ∙ e))
         (refused_image number place ok e)))
 
-  module _ (n : AreaCounts) (areas : Image) (t : Thaws file lent (thawing.Areas n) areas) (Y : Image) (work' : List ℕ) where
+  module _ (n : AreaCounts) (areas : Image) (t : Thaws file lent (Ok n) areas) (Y : Image) (work' : List ℕ) where
     read_ok : thaw_verdict lent file ≡ files.accepted
     read_ok = (accepted-answer file n t.answer).0
 
     -- a collection
-    outcome-done : (cells entries : Counts) → Collects (just_stack n.stack areas) work (collecting.Done cells entries) Y work'
-        → Outcomes file lent work (record { text = collected_text (answer_of (collecting.Done cells entries)) Y; areas = joined areas Y; work = work' })
-    outcome-done cells entries c =
-        subst (λ (Z : Image). Outcomes file lent work (record { text = collected_text (answer_of (collecting.Done cells entries)) Y; areas = joined Z Y; work = work' })) (sym (thawed-is n areas t))
-        (done-by read_ok Y work' _ refl cells entries (subst (λ (Z : Image). Collects Z work (collecting.Done cells entries) Y work') (taken_is n areas t) c))
+    outcome-done : (done : Collected) → Collects (just_stack n.stack areas) work (Ok done) Y work'
+        → Outcomes file lent work (record { text = collected_text (answer_of (Ok done)) Y; areas = joined areas Y; work = work' })
+    outcome-done done c =
+        subst (λ (Z : Image). Outcomes file lent work (record { text = collected_text (answer_of (Ok done)) Y; areas = joined Z Y; work = work' })) (sym (thawed-is n areas t))
+        (done-by read_ok Y work' _ refl done (subst (λ (Z : Image). Collects Z work (Ok done) Y work') (taken_is n areas t) c))
 
     -- a refused image
-    outcome-refused : (q : Refusal) → Collects (just_stack n.stack areas) work (collecting.Refused q) Y work'
+    outcome-refused : (q : Refusal) → Collects (just_stack n.stack areas) work (Err q) Y work'
         → Outcomes file lent work (record { text = verdict_text (verdict_of q); areas = joined areas Y; work = work' })
     outcome-refused q c =
         subst (λ (Z : Image). Outcomes file lent work (record { text = verdict_text (verdict_of q); areas = joined Z Y; work = work' })) (sym (thawed-is n areas t))
-        (refused-by read_ok Y work' _ refl q (subst (λ (Z : Image). Collects Z work (collecting.Refused q) Y work') (taken_is n areas t) c))
+        (refused-by read_ok Y work' _ refl q (subst (λ (Z : Image). Collects Z work (Err q) Y work') (taken_is n areas t) c))
 
-    pub lists-done : (cells entries : Counts) (shown left : Image) → shown ≡ Y → left ≡ joined areas Y → text_most shown ≤ text_most lent
-        → Collects (just_stack n.stack areas) work (collecting.Done cells entries) Y work'
-        → {output output' : List ℕ} {r : ℕ} → PutsShort (text_most shown) output 0 (collected_text (answer_of (collecting.Done cells entries)) shown) r output'
+    pub lists-done : (done : Collected) (shown left : Image) → shown ≡ Y → left ≡ joined areas Y → text_most shown ≤ text_most lent
+        → Collects (just_stack n.stack areas) work (Ok done) Y work'
+        → {output output' : List ℕ} {r : ℕ} → PutsShort (text_most shown) output 0 (collected_text (answer_of (Ok done)) shown) r output'
         → Lists file lent work output r left work' output'
-    lists-done cells entries shown left s e m c p =
+    lists-done done shown left s e m c p =
         puts-lists p.puts file lent work left work'
-        (subst (λ (Z : Image). Outcomes file lent work (record { text = collected_text (answer_of (collecting.Done cells entries)) shown; areas = Z; work = work' })) (sym e)
-        (subst (λ (Z : Image). Outcomes file lent work (record { text = collected_text (answer_of (collecting.Done cells entries)) Z; areas = joined areas Y; work = work' })) (sym s) (outcome-done cells entries c)))
+        (subst (λ (Z : Image). Outcomes file lent work (record { text = collected_text (answer_of (Ok done)) shown; areas = Z; work = work' })) (sym e)
+        (subst (λ (Z : Image). Outcomes file lent work (record { text = collected_text (answer_of (Ok done)) Z; areas = joined areas Y; work = work' })) (sym s) (outcome-done done c)))
         (omega (arith, p.short, m))
 
-    pub lists-refused : (q : Refusal) (left : Image) → left ≡ joined areas Y → Collects (just_stack n.stack areas) work (collecting.Refused q) Y work'
+    pub lists-refused : (q : Refusal) (left : Image) → left ≡ joined areas Y → Collects (just_stack n.stack areas) work (Err q) Y work'
         → {output output' : List ℕ} {r : ℕ} → PutsShort line_most output 0 (verdict_text (verdict_of q)) r output' → Lists file lent work output r left work' output'
     lists-refused q left e c p =
         puts-lists p.puts file lent work left work'
         (subst (λ (Z : Image). Outcomes file lent work (record { text = verdict_text (verdict_of q); areas = Z; work = work' })) (sym e) (outcome-refused q c))
         (omega (arith, p.short))
 
-  pub lists-bad : (q : FileRefusal) (left : Image) → Thaws file lent (thawing.Refused q) left
+  pub lists-bad : (q : FileRefusal) (left : Image) → Thaws file lent (Err q) left
       → {output output' : List ℕ} {r : ℕ} → PutsShort line_most output 0 (file_verdict_text (files.verdict_of q)) r output' → Lists file lent work output r left work output'
   lists-bad q left t p = puts-lists p.puts file lent work left work (outcome-bad q left t) (omega (arith, p.short))
 
   -- what is read fits the areas
-  pub read_fits : (n : AreaCounts) (areas : Image) → Thaws file lent (thawing.Areas n) areas → (n.stack ≤ length lent.stack) × (fixed ≤ length lent.control)
+  pub read_fits : (n : AreaCounts) (areas : Image) → Thaws file lent (Ok n) areas → (n.stack ≤ length lent.stack) × (fixed ≤ length lent.control)
   read_fits n areas t =
       let a = thaws-filled file lent n areas t in
       ((within-each n _ a.2.room).stack, (legal-each lent a.0).least)

@@ -58,6 +58,9 @@ abbrev pub names_most : ℕ
 names_most = 29
 
 -- no text is longer
+abbrev pub areas_most : Image → ℕ
+areas_most lent = 25 + word_most * (length lent.control + length lent.stack + length lent.heap + length lent.trail)
+
 abbrev pub text_most : Image → ℕ
 text_most lent = line_most + names_most + word_most * (length lent.control + length lent.stack + length lent.heap + length lent.trail)
 

@@ -2,37 +2,13 @@
 #![tactic(auto)]
 
 mod lines;
-mod numbers;
 
 ghost use Rattle.freeze.specs.Thaw.{image_of};
 ghost use Rattle.listing.specs.Lists.{Lists, CountsBytes};
 
-use freeze::Thawed;
 use lines::put_collected;
 pub use lines::{put_area, put_bad_file, put_file, put_number_alone, put_refusal};
-use machine::{Collected, Place};
-pub use numbers::{fault_of, reason_of};
-
-// Whether a refusal names a place.
-#[derive(Clone, Copy)]
-pub enum Where {
-    Nowhere,
-    In(Place),
-}
-
-// Why an image is refused: the number, and the place where there is one.
-#[derive(Clone, Copy)]
-pub struct Reason {
-    pub number: usize,
-    pub place: Where,
-}
-
-// Why a file is not read: the number and the offset.
-#[derive(Clone, Copy)]
-pub struct Fault {
-    pub number: usize,
-    pub offset: usize,
-}
+use machine::View;
 
 // Reads a freeze file into four lent areas, collects, and writes the listing into a lent output; answers how many bytes it wrote.
 pub fn list(
@@ -48,22 +24,20 @@ pub fn list(
     ensures counts_bytes { CountsBytes result output.new }
 {
     let counts = match freeze::thaw(file, control, stack, heap, trail) {
-        Thawed::Areas(counts) => counts,
-        Thawed::Refused(refusal) => return put_bad_file(output, 0, refusal),
+        Ok(counts) => counts,
+        Err(refusal) => return put_bad_file(output, 0, refusal),
     };
-    let front = counts.stack;
-    match collect::collect(control, &mut stack[..front], heap, trail, work) {
-        Collected::Done { cells, entries } => {
-            put_collected(
-                output,
-                cells,
-                entries,
+    let stack = &mut stack[..counts.stack];
+    match collect::collect(control, stack, heap, trail, work) {
+        Ok(done) => {
+            let view = View {
                 control,
-                &stack[..front],
+                stack,
                 heap,
                 trail,
-            )
+            };
+            put_collected(output, done, view)
         }
-        Collected::Refused(refusal) => put_refusal(output, 0, refusal),
+        Err(refusal) => put_refusal(output, 0, refusal),
     }
 }

@@ -1,60 +1,58 @@
 // The lines of a listing, each from a place of the output on.
-ghost use Rattle.std.specs.Prelude.{◌≤◌, ◌++◌, length};
+ghost use Rattle.std.specs.Prelude.{◌≤◌, ◌++◌, ◌+◌, ◌*◌, length, take};
 ghost use Rattle.machine.specs.Layout.{fixed};
-ghost use Rattle.machine.specs.Refusals.{accepted, nowhere};
-ghost use Rattle.machine.specs.Answers.{place_in, verdict_of};
+ghost use Rattle.machine.specs.Refusals.{nowhere};
+ghost use Rattle.machine.specs.Answers.{answer_of, place_in, verdict_of};
+ghost use Rattle.machine.specs.Lent.{seen};
 ghost use Rattle.freeze.specs.Verdicts.{verdict_of as file_verdict_of};
-ghost use Rattle.freeze.specs.Thaw.{image_of};
-ghost use Rattle.text.specs.Line.{ascii};
+ghost use Rattle.text.specs.Line.{ascii, line};
 ghost use Rattle.text.specs.Puts.{Puts, PutsShort};
 ghost use Rattle.listing.specs.Text.{kept_line, area_lines, collected_text, name_of, refused_text, file_text};
-ghost use Rattle.listing.specs.Lists.{line_most, text_most};
+ghost use Rattle.listing.specs.Lists.{line_most, areas_most, text_most, word_most};
 ghost use Rattle.listing.specs.Lines.{verdict_text, file_verdict_text};
 
-use crate::Where;
-use crate::numbers::{fault_of, reason_of};
 use freeze::FileRefusal;
-use machine::{Area, Counts, FIXED, H, N, Place, Refusal, T};
+use machine::{Area, Collected, FIXED, H, N, Place, Refusal, T, View};
 use text::{put_byte, put_bytes, put_line, put_spaced};
 
 // Cells kept and dropped, entries kept and dropped.
-pub fn put_kept(output: &mut [u8], at: usize, cells: Counts, entries: Counts) -> usize
-    ensures { PutsShort line_most output.old at (kept_line (record {
-      verdict = accepted;
-      cells_kept = cells.kept;
-      cells_dropped = cells.dropped;
-      entries_kept = entries.kept;
-      entries_dropped = entries.dropped;
-    })) result output.new }
+pub fn put_kept(output: &mut [u8], at: usize, done: Collected) -> usize
+    ensures { PutsShort line_most output.old at (kept_line (answer_of (Ok done))) result output.new }
 {
     let kept = put_bytes(output, at, b"kept");
-    let dropped = put_spaced(output, kept, cells.kept);
-    let trail = put_spaced(output, dropped, cells.dropped);
+    let dropped = put_spaced(output, kept, done.cells.kept);
+    let trail = put_spaced(output, dropped, done.cells.dropped);
     let entries_kept = put_bytes(output, trail, b" trail");
-    let entries_dropped = put_spaced(output, entries_kept, entries.kept);
-    let end = put_spaced(output, entries_dropped, entries.dropped);
+    let entries_dropped = put_spaced(output, entries_kept, done.entries.kept);
+    let end = put_spaced(output, entries_dropped, done.entries.dropped);
     put_byte(output, end, b'\n')
 }
 
-// The words of each area that the registers count, and the whole stack.
-pub fn put_areas(
-    output: &mut [u8],
-    at: usize,
-    control: &[u32],
-    stack: &[u32],
-    heap: &[u32],
-    trail: &[u32],
-) -> usize
-    requires { fixed ≤ length control.now }
-    ensures { Puts output.old at (area_lines (image_of control.now stack.now heap.now trail.now)) result output.new }
+// A line of an area, the word and the first words, as many as counted.
+fn put_words(output: &mut [u8], at: usize, word: &[u8], words: &[u32], count: usize) -> usize
+    ensures { PutsShort (length word.now + word_most * length words.now + 1) output.old at (line word.now (take count words.now)) result output.new }
 {
+    put_line(output, at, word, words, count)
+}
+
+// The words of each area that the registers count, and the whole stack.
+pub fn put_areas(output: &mut [u8], at: usize, view: View<'_>) -> usize
+    requires { fixed ≤ length view.control.now }
+    ensures { PutsShort (areas_most (seen view.entry)) output.old at (area_lines (seen view.entry)) result output.new }
+{
+    let View {
+        control,
+        stack,
+        heap,
+        trail,
+    } = view;
     let count = FIXED + control[N] as usize;
     let top = control[H] as usize;
     let entries = control[T] as usize;
-    let stack_at = put_line(output, at, b"control", control, count);
-    let heap_at = put_line(output, stack_at, b"stack", stack, stack.len());
-    let trail_at = put_line(output, heap_at, b"heap", heap, top);
-    put_line(output, trail_at, b"trail", trail, entries)
+    let stack_at = put_words(output, at, b"control", control, count);
+    let heap_at = put_words(output, stack_at, b"stack", stack, stack.len());
+    let trail_at = put_words(output, heap_at, b"heap", heap, top);
+    put_words(output, trail_at, b"trail", trail, entries)
 }
 
 // A refusal that names no place.
@@ -84,8 +82,7 @@ fn put_placed(output: &mut [u8], at: usize, number: usize, place: Place) -> usiz
 {
     let number_at = put_bytes(output, at, b"refused");
     let area_at = put_spaced(output, number_at, number);
-    let area = place.area;
-    let index_at = put_area(output, area_at, area);
+    let index_at = put_area(output, area_at, place.area);
     let end = put_spaced(output, index_at, place.index);
     put_byte(output, end, b'\n')
 }
@@ -94,11 +91,11 @@ fn put_placed(output: &mut [u8], at: usize, number: usize, place: Place) -> usiz
 pub fn put_refusal(output: &mut [u8], at: usize, refusal: Refusal) -> usize
     ensures { PutsShort line_most output.old at (verdict_text (verdict_of refusal)) result output.new }
 {
-    let reason = reason_of(refusal);
-    let site = reason.place;
-    match site {
-        Where::Nowhere => put_number_alone(output, at, reason.number),
-        Where::In(place) => put_placed(output, at, reason.number, place),
+    let reason = refusal.reason();
+    let number = reason.number as usize;
+    match reason.place {
+        None => put_number_alone(output, at, number),
+        Some(place) => put_placed(output, at, number, place),
     }
 }
 
@@ -116,31 +113,16 @@ pub fn put_file(output: &mut [u8], at: usize, number: usize, offset: usize) -> u
 pub fn put_bad_file(output: &mut [u8], at: usize, refusal: FileRefusal) -> usize
     ensures { PutsShort line_most output.old at (file_verdict_text (file_verdict_of refusal)) result output.new }
 {
-    let fault = fault_of(refusal);
-    put_file(output, at, fault.number, fault.offset)
+    let fault = refusal.fault();
+    put_file(output, at, fault.number as usize, fault.offset)
 }
 
 // The whole text of a collection.
-pub fn put_collected(
-    output: &mut [u8],
-    cells: Counts,
-    entries: Counts,
-    control: &[u32],
-    stack: &[u32],
-    heap: &[u32],
-    trail: &[u32],
-) -> usize
-    requires { fixed ≤ length control.now }
-    ensures { PutsShort (text_most (image_of control.now stack.now heap.now trail.now))
-        output.old 0 (collected_text (record {
-          verdict = accepted;
-          cells_kept = cells.kept;
-          cells_dropped = cells.dropped;
-          entries_kept = entries.kept;
-          entries_dropped = entries.dropped;
-        }) (image_of control.now stack.now heap.now trail.now)) result output.new }
+pub fn put_collected(output: &mut [u8], done: Collected, view: View<'_>) -> usize
+    requires { fixed ≤ length view.control.now }
+    ensures { PutsShort (text_most (seen view.entry)) output.old 0 (collected_text (answer_of (Ok done)) (seen view.entry)) result output.new }
 {
-    let areas_at = put_kept(output, 0, cells, entries);
-    let end_at = put_areas(output, areas_at, control, stack, heap, trail);
+    let areas_at = put_kept(output, 0, done);
+    let end_at = put_areas(output, areas_at, view);
     put_bytes(output, end_at, b"end\n")
 }

@@ -2,4 +2,5 @@ pub mod Stacks
 pub mod Whole
 pub mod Drains
 pub mod Roots
+pub mod Parted
 pub mod Marking

@@ -1,18 +1,15 @@
--- Pushing what the roots refer to, one root after the other; the first h work words lent and come back. Assumes nothing.
-use Prim.Native.Nat.{ℕ, ◌+◌, ◌≤◌}
-use mathlib.Core.Path.{◌≡◌, sym, ◌∙◌, subst}
+-- Pushing what the roots refer to, one root after the other. Assumes nothing.
+use Prim.Native.Nat.{ℕ, ◌+◌}
+use mathlib.Core.Path.{subst}
 use mathlib.Core.Logic.{◌⊎◌, inl, inr, ⊎_elim}
-use mathlib.Core.List.{List, ◌++◌}
+use mathlib.Core.List.{List}
 use native.Mathlib.Omega.{arith}
 use native.Mathlib.Decide.{ℕ_discrete}
-use lib.ListN.{get_or, length, take, drop}
-use lib.Seq.{length-take-le, length_front, take_at, drop_at}
+use lib.ListN.{get_or}
 use Rattle.cell.specs.Word.{Refers}
 use Rattle.mark.specs.Pending.{Pushed}
-use Rattle.mark.specs.Roots.{Named, PushedBelow}
+use Rattle.mark.specs.Roots.{Named}
 use Rattle.mark.proofs.Stacks.{pushed-join, pushed-iff}
-
--- ---- one root after the other
 
 module _ {heap words : List ℕ} {Is : ℕ → Type 0} where
   wider : (n x : ℕ) → Named heap words Is n x → Named heap words Is (n + 1) x
@@ -39,21 +36,3 @@ module _ {heap words : List ℕ} {Is : ℕ → Type 0} where
     -- the word n is no root
     pub named-skip : (Is n → ⊥) → Pushed heap (Named heap words Is (n + 1)) marks top m t
     named-skip no-root = pushed-iff (wider n) (λ x r. ⊎_elim (λ a. a) (λ b. absurd (no-root b.0)) (narrower n x r)) p
-
--- ---- the first h words of `work` are lent, and come back as m
-
-module _ (h : ℕ) (work m : List ℕ) (low : h ≤ length work) (same : length m ≡ length (take h work)) where
-  pub put_front : take h (m ++ drop h work) ≡ m
-  put_front = take_at m (drop h work) h (same ∙ length-take-le h work low)
-
-  pub put_rest : drop h (m ++ drop h work) ≡ drop h work
-  put_rest = drop_at m (drop h work) h (same ∙ length-take-le h work low)
-
-pub below_put : {P Q : ℕ → Type 0} {heap work w m : List ℕ} {top t t' : ℕ} (h : ℕ) → h ≤ length work → PushedBelow h heap P work top w t → length m ≡ length (take h w) → Pushed heap Q (take h work) top m t' → PushedBelow h heap Q work top (m ++ drop h w) t'
-below_put {Q = Q} {heap = heap} {work = work} {w = w} {m = m} {top = top} {t' = t'} h low b s q =
-    let low' : h ≤ length w = omega (arith, b.same) in
-    record {
-      front = subst (λ (l : List ℕ). Pushed heap Q (take h work) top l t') (sym (put_front h w m low' s)) q;
-      rest = put_rest h w m low' s ∙ b.rest;
-      same = length_front w m h s ∙ b.same;
-    }

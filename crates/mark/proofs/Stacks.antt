@@ -1,5 +1,5 @@
 -- The pending stack: what one store keeps, and what a run of pushes keeps. Runs over two sets of cells join to one. Assumes nothing.
-use Prim.Native.Nat.{ℕ, zero, suc, suc-le-suc, ◌+◌, ◌-◌, ◌≤◌, ◌<◌, max}
+use Prim.Native.Nat.{ℕ, zero, suc, suc-le-suc, ◌+◌, ◌-◌, ◌≤◌, ◌<◌}
 use mathlib.Core.Path.{◌≡◌, refl, sym, ap, ◌∙◌, subst}
 use mathlib.Core.Logic.{◌⊎◌, inl, inr, ⊎_elim, ◌≢◌}
 use mathlib.Core.List.{List, [], ◌∷◌}
@@ -154,9 +154,6 @@ module _ {heap : List ℕ} where
     where
       split : (y : ℕ) → Range a (x + 1) y → Range a x y ⊎ (y ≡ x)
       split y r = elim (ℕ_discrete y x) [ yes q ↦ inr q | no n ↦ inl (omega arith) ]
-
-  pub range-end : {marks : List ℕ} {top : ℕ} {m : List ℕ} {t : ℕ} (a x z : ℕ) → a ≤ x → x ≤ max a z → z ≤ x → Pushed heap (Range a x) marks top m t → Pushed heap (Range a z) marks top m t
-  range-end a x z h k l p = pushed-iff (λ y r. omega arith) (λ y r. omega arith) p
 
   pub range-pair : {marks : List ℕ} {top : ℕ} {m : List ℕ} {t : ℕ} {m' : List ℕ} {t' : ℕ} (a z : ℕ) → z ≡ a + 1 → Pushed heap (λ (y : ℕ). y ≡ a) marks top m t → Pushed heap (λ (y : ℕ). y ≡ z) m t m' t' → Pushed heap (Range a (a + 2)) marks top m' t'
   range-pair a z e = pushed-join (λ y q. omega arith) (λ y q. omega arith) split

@@ -1,6 +1,6 @@
 -- A marked first cell means that its arguments are marked. Pushing keeps this: where a first cell is newly marked, a word that was looked into
 -- refers to it; by refusal 17 that word is a STRUCT with this very first cell, so its arguments were pushed with it. Assumes nothing.
-use Prim.Native.Nat.{ℕ, ◌+◌, ◌≤◌}
+use Prim.Native.Nat.{ℕ, ◌≤◌}
 use mathlib.Core.Path.{◌≡◌, refl, sym, ap, subst}
 use mathlib.Core.Logic.{inl, inr, ⊎_elim}
 use mathlib.Core.List.{List}
@@ -12,7 +12,7 @@ use Rattle.machine.specs.Refusals.{struct_to}
 use Rattle.machine.proofs.Tests.{true-false, either}
 use Rattle.machine.proofs.Accepted.{To}
 use Rattle.machine.proofs.FirstCells.{to-iff}
-use Rattle.mark.specs.Marks.{Marked, FirstAmong, ClearAmong}
+use Rattle.mark.specs.Marks.{FirstAmong, ClearAmong}
 use Rattle.mark.specs.Whole.{Whole, Passable, Picked, at}
 use Rattle.mark.specs.Pending.{Pushed}
 use Rattle.mark.specs.Roots.{Named}

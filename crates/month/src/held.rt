@@ -1,5 +1,5 @@
 // The bytes of the input that are held: a part of a buffer, moved to its front when it gets short.
-ghost use Rattle.std.specs.Prelude.{◌≡◌, ◌++◌, ◌+◌, ◌-◌, ◌≤◌, length, take, drop, IfOk, OnErr};
+ghost use Rattle.std.specs.Prelude.{◌≡◌, ◌+◌, ◌-◌, ◌≤◌, take, drop, IfOk, OnErr};
 ghost use Rattle.month.specs.Holding.{Holds, Enough};
 
 use std::io;
@@ -32,24 +32,9 @@ impl Held {
     {
         Held {
             from: self.from + used,
-            to: self.to,
-            ended: self.ended,
+            ..self
         }
     }
-}
-
-// The part goes to the front of the buffer; answers how long it is.
-fn move_front(buffer: &mut [u8], from: usize, to: usize) -> usize
-    requires { (from ≤ to) × (to ≤ length buffer.old) }
-    ensures { (result ≡ to - from) × (buffer.new ≡ take (to - from) (drop from buffer.old) ++ drop (to - from) buffer.old) }
-{
-    let count = to - from;
-    let mut i = 0;
-    while i < count {
-        buffer[i] = buffer[from + i];
-        i += 1;
-    }
-    count
 }
 
 // Reads on where fewer bytes are held than the longest file has, until the buffer is full or the input ends. Where a read fails, its error
@@ -59,20 +44,16 @@ pub fn refill<R: Read>(input: &mut R, buffer: &mut [u8], held: Held) -> io::Resu
     ensures ok { IfOk result (λ h. Holds h buffer.new × Enough h) }
     ensures err { OnErr result (take (held.to - held.from) buffer.new ≡ take (held.to - held.from) (drop held.from buffer.old)) }
 {
-    let from = held.from;
-    let to = held.to;
-    if held.ended {
+    if held.ended || report::FILE_MOST <= held.to - held.from {
         return Ok(held);
     }
-    if report::FILE_MOST <= to - from {
-        return Ok(held);
-    }
-    let kept = move_front(buffer, from, to);
+    let kept = held.to - held.from;
+    buffer.copy_within(held.from..held.to, 0);
     let count = reading::read_full(input, &mut buffer[kept..])?;
-    let full = kept + count == buffer.len();
+    let to = kept + count;
     Ok(Held {
         from: 0,
-        to: kept + count,
-        ended: !full,
+        to,
+        ended: to < buffer.len(),
     })
 }

@@ -32,10 +32,8 @@ fn run<R: Read>(
     let mut month = report::begin();
     loop {
         held = refill(input, buffer, held)?;
-        let from = held.from;
-        let to = held.to;
         let step = report::next(
-            &buffer[from..to],
+            &buffer[held.from..held.to],
             month,
             control,
             stack,
@@ -45,13 +43,12 @@ fn run<R: Read>(
             output,
             at,
         );
-        let end = step.at;
-        if !step.more {
-            return rt.write_all(&output[..end]);
-        }
-        held = held.past(step.used);
-        at = make_room(rt, output, end)?;
-        month = step.month;
+        let Some(next) = step.next else {
+            return rt.write_all(&output[..step.at]);
+        };
+        held = held.past(next.used);
+        at = make_room(rt, output, step.at)?;
+        month = next.month;
     }
 }
 

@@ -59,9 +59,9 @@ all-length none = refl
 all-length (more g i) = entered-length i ∙ all-length g
 
 -- the source n is the word w
-pub all_more : {heap q q₁ q' : List ℕ} {word : ℕ → ℕ} {t t₁ t' m : ℕ} (n w : ℕ) → m ≡ n + 1 → word n ≡ w → ReadAll heap word q t n q₁ t₁ → Read heap w q₁ t₁ q' t' → ReadAll heap word q t m q' t'
-all_more {heap} {q₁ = q₁} {q' = q'} {t₁ = t₁} {t' = t'} n w e o g i =
-    rw e (more g (subst (λ (v : ℕ). Read heap v q₁ t₁ q' t') (sym o) i))
+pub all_more : {heap q q₁ q' : List ℕ} {word : ℕ → ℕ} {t t₁ t' : ℕ} (n w : ℕ) → word n ≡ w → ReadAll heap word q t n q₁ t₁ → Read heap w q₁ t₁ q' t' → ReadAll heap word q t (n + 1) q' t'
+all_more {heap} {q₁ = q₁} {q' = q'} {t₁ = t₁} {t' = t'} n w e g i =
+    more g (subst (λ (v : ℕ). Read heap v q₁ t₁ q' t') (sym e) i)
 
 module _ {heap : List ℕ} {word : ℕ → ℕ} {n t : ℕ} {q : List ℕ} (k : Readable heap word n q t) where
   pub readable-after : {m t' : ℕ} {q' : List ℕ} → m ≤ n → ReadAll heap word q t m q' t' → Readable heap word n q' t'

@@ -1,6 +1,6 @@
 -- The queue followed to its end: what a turn keeps, for whatever roots the search began with, and what holds at the end. Assumes nothing.
 use Prim.Native.Nat.{ℕ, ◌+◌, ◌≤◌, ◌<◌}
-use mathlib.Core.Path.{◌≡◌, refl, sym, ap, ◌∙◌, subst}
+use mathlib.Core.Path.{◌≡◌, sym, ap, ◌∙◌, subst}
 use mathlib.Core.Logic.{◌⊎◌, inl, inr, ◌≢◌}
 use mathlib.Core.List.{List}
 use native.Mathlib.Omega.{arith}
@@ -16,7 +16,7 @@ use Rattle.queue.proofs.Puts.{unmet-same, set-part}
 use Rattle.queue.proofs.Entering.{entered-length, entered-tail, entered-fit, entered-level}
 use Rattle.queue.proofs.Reading.{cell-source, reading-end}
 use Rattle.queue.proofs.Turns.{turn-read}
-use Rattle.queue.proofs.Levels.{Levels, levels-none, levels-begin, levels-turn, levels-end}
+use Rattle.queue.proofs.Levels.{Levels, levels-begin, levels-turn, levels-end}
 
 -- the sources before roots + i have been read, and the next level begins at `next`
 pub record Going (heap : List ℕ) (word : ℕ → ℕ) (roots : ℕ) (q : List ℕ) (t next i : ℕ) : Type 0 where
@@ -34,25 +34,6 @@ pub record Following (heap q₀ : List ℕ) (t₀ : ℕ) (q : List ℕ) (t next 
   pub same : length q ≡ length q₀
   pub clear : (j : ℕ) → next ≤ j → begins_at q j ≡ 0
   pub going : (word : ℕ → ℕ) (roots : ℕ) → Searched heap word roots roots q₀ t₀ → Going heap word roots q t next i
-
-pub following-start : {heap q : List ℕ} {t : ℕ} → Fit q t → ((j : ℕ) → begins_at q j ≡ 0) → Following heap q t q t 0 0
-following-start {heap} {q} {t} f e = record {
-  order = omega arith;
-  ahead = omega arith;
-  fit = f;
-  same = refl;
-  clear = λ j l. e j;
-  going = λ word roots b. record {
-    cells = b.cells;
-    from = b.from;
-    reading = subst (λ (s : ℕ). Reading heap word roots s 0 b.cells b.from) (omega arith) b.reading;
-    holds = b.holds;
-    levels = levels-none (begins_at q) roots b.from e (λ j l.
-        let o : j < length b.cells = omega (arith, b.reading.paired) in
-        let past : get_or b.from j 0 ≢ roots = λ i. omega (arith, b.reading.below j o i) in
-        omega (arith, b.reading.come j o));
-  };
-}
 
 module _ {heap q₀ q : List ℕ} {t₀ t : ℕ} where
   -- ---- a level begins at i

@@ -5,7 +5,6 @@ use mathlib.Core.Path.{◌≡◌, sym, ◌∙◌, subst}
 use mathlib.Core.Logic.{◌≢◌}
 use mathlib.Core.List.{List}
 use native.Mathlib.Omega.{arith}
-use native.Mathlib.Nat.{not-suc-le-zero}
 use native.Mathlib.Decide.{ℕ_discrete, dec_lt}
 use lib.ListN.{get_or, length}
 use Rattle.order.specs.Levels.{Starts, Levelled}
@@ -29,17 +28,6 @@ pub record Levels (begins : ℕ → ℕ) (roots i next : ℕ) (from : List ℕ) 
   pub high : (j : ℕ) → next ≤ j → j < length from → get_or from j 0 < roots + i
 
 module _ (begins : ℕ → ℕ) (roots : ℕ) (from : List ℕ) where
-  pub levels-none : ((j : ℕ) → begins j ≡ 0) → ((j : ℕ) → j < length from → get_or from j 0 < roots) → Levels begins roots 0 0 from
-  levels-none f g = record {
-    clear = λ j l. f j;
-    top = λ l. absurd (not-suc-le-zero l);
-    first = λ j l s. absurd (not-suc-le-zero l);
-    above = λ a b j l s o t. absurd (not-suc-le-zero l);
-    begun = λ a l s. absurd (not-suc-le-zero l);
-    low = λ a j l o m s. absurd (not-suc-le-zero m);
-    high = λ j l o. omega (arith, g j o);
-  }
-
   pub levels-end : {i : ℕ} → ((j : ℕ) → begins j ≤ 1) → Levels begins roots i (length from) from → Levelled begins roots from
   levels-end f k = record { bit = λ j l. f j; top = k.top; first = k.first; above = k.above }
 

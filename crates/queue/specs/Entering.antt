@@ -1,8 +1,8 @@
 -- How cells join the queue. It stands in the work words below H, `queue`, up to `tail`. Assumes nothing.
-use Rattle.std.specs.Prelude.{ℕ, ◌+◌, ◌-◌, ◌*◌, ◌<◌, ◌≤◌, ◌≡◌, List, [], ◌∷◌, length, get_or, set, take, drop, eqb}
+use Rattle.std.specs.Prelude.{ℕ, ◌+◌, ◌-◌, ◌*◌, ◌<◌, ◌≤◌, ◌≡◌, List, [], ◌∷◌, length, get_or, set, eqb}
 use Rattle.cell.specs.Word.{pick, value_of, extent}
 use Rattle.machine.specs.Layout.{heap_most}
-use Rattle.machine.specs.Roles.{cell, code_of, note_at}
+use Rattle.machine.specs.Roles.{cell, code_of}
 use Rattle.mark.specs.Marks.{Within}
 use Rattle.queue.specs.Filled.{met_bit, entry_of, nothing}
 
@@ -51,11 +51,5 @@ pub record Readable (heap : List ℕ) (word : ℕ → ℕ) (n : ℕ) (queue : Li
   pub within : (s : ℕ) → s < n → Within (length queue) heap (word s)
 
 -- the source that a stack word is, as its note says
-unfoldable pub stack_word : List ℕ → List ℕ → List ℕ → ℕ → ℕ
-stack_word stack heap work i = pick (eqb (note_at work (length heap) i) (code_of cell)) (get_or stack i 0) nothing
-
--- read into the first h work words; the others are as they were
-pub record ReadBelow (h : ℕ) (heap : List ℕ) (word : ℕ → ℕ) (work : List ℕ) (tail n : ℕ) (work' : List ℕ) (tail' : ℕ) : Type 0 where
-  pub front : ReadAll heap word (take h work) tail n (take h work') tail'
-  pub rest : drop h work' ≡ drop h work
-  pub same : length work' ≡ length work
+unfoldable pub stack_word : List ℕ → List ℕ → ℕ → ℕ
+stack_word stack notes i = pick (eqb (get_or notes i 0) (code_of cell)) (get_or stack i 0) nothing

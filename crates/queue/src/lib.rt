@@ -7,10 +7,11 @@ ghost use Rattle.machine.specs.Layout.{N, fixed, field, argument};
 ghost use Rattle.mark.specs.Marks.{Within, Markable};
 ghost use Rattle.mark.specs.Pending.{Range};
 ghost use Rattle.queue.specs.Filled.{met_bit, level_bit, entry_of, begins_at, Filled};
-ghost use Rattle.queue.specs.Entering.{Fit, Joined, Entered, Read, ReadAll, ReadBelow, Readable, stack_word};
+ghost use Rattle.queue.specs.Entering.{Fit, Joined, Entered, Read, ReadAll, Readable, stack_word};
 ghost use Rattle.queue.specs.Reading.{Searched, Followed};
 
-use machine::{CELL, FIXED, H};
+use cell::Tag;
+use machine::{CELL, FIXED, H, View};
 
 // Whether the work word of a cell says that it is met.
 pub fn is_met(word: u32) -> bool
@@ -38,22 +39,15 @@ fn end_of(heap: &[u32], word: u32) -> usize
     requires { tag_of word ≡ STRUCT → value_of word < length heap.now }
     ensures { result ≡ value_of word + extent heap.now word }
 {
-    let tag = cell::tag(word);
     let v = cell::value(word);
     let a = v as usize;
-    if tag == cell::VAR {
-        if v < cell::STACK_BASE {
-            return a + 1;
-        }
-        return a;
+    match Tag::of(word) {
+        Tag::Var if v < cell::STACK_BASE => a + 1,
+        Tag::Var => a,
+        Tag::Struct => a + 1 + cell::arity(heap[a]) as usize,
+        Tag::List => a + 2,
+        Tag::Const => a,
     }
-    if tag == cell::LIST {
-        return a + 2;
-    }
-    if tag == cell::STRUCT {
-        return a + 1 + cell::arity(heap[a]) as usize;
-    }
-    a
 }
 
 // Whether a word refers to the heap cell x.
@@ -61,10 +55,7 @@ pub fn refers(heap: &[u32], word: u32, x: usize) -> bool
     requires { tag_of word ≡ STRUCT → value_of word < length heap.now }
     ensures { result ≡ (leb (value_of word) x && ltb x (value_of word + extent heap.now word)) }
 {
-    if x < cell::value(word) as usize {
-        return false;
-    }
-    x < end_of(heap, word)
+    cell::value(word) as usize <= x && x < end_of(heap, word)
 }
 
 // Puts the cell x at the end of the queue, unless it is met; answers where the queue ends.
@@ -86,10 +77,8 @@ fn enter_range(queue: &mut [u32], tail: usize, a: usize, z: usize) -> usize
     ensures { Entered a queue.old tail z queue.new result }
 {
     let mut t = tail;
-    let mut x = a;
-    while x < z {
+    for x in a..z {
         t = enter(queue, t, x);
-        x += 1;
     }
     t
 }
@@ -109,28 +98,23 @@ fn enter_arguments(control: &[u32], heap: &[u32], queue: &mut [u32]) -> usize
 {
     let end = FIXED + control[machine::N] as usize;
     let mut t = 0;
-    let mut i = FIXED;
-    while i < end {
-        t = enter_word(heap, queue, t, control[i]);
-        i += 1;
+    for word in &control[FIXED..end] {
+        t = enter_word(heap, queue, t, *word);
     }
     t
 }
 
-// Enters what the stack's cells refer to, as the notes after the heap's work words say which they are.
-fn enter_cells(stack: &[u32], heap: &[u32], work: &mut [u32], h: usize, tail: usize) -> usize
-    requires stack_in_bounds { (length heap.now + length stack.now ≤ length work.old) × (h ≤ length heap.now) }
-    requires readable { Readable heap.now (stack_word stack.now heap.now work.old) (length stack.now) (take h work.old) tail }
-    ensures { ReadBelow h heap.now (stack_word stack.now heap.now work.old) work.old tail (length stack.now) work.new result }
+// Enters what the stack's cells refer to, as the notes of the stack's words say which they are.
+fn enter_cells(stack: &[u32], notes: &[u32], heap: &[u32], queue: &mut [u32], tail: usize) -> usize
+    requires noted { length stack.now ≤ length notes.now }
+    requires readable { Readable heap.now (stack_word stack.now notes.now) (length stack.now) queue.old tail }
+    ensures { ReadAll heap.now (stack_word stack.now notes.now) queue.old tail (length stack.now) queue.new result }
 {
-    let notes = heap.len();
     let mut t = tail;
-    let mut i = 0;
-    while i < stack.len() {
-        if work[notes + i] == CELL {
-            t = enter_word(heap, &mut work[..h], t, stack[i]);
+    for (word, note) in stack.iter().zip(notes) {
+        if *note == CELL {
+            t = enter_word(heap, queue, t, *word);
         }
-        i += 1;
     }
     t
 }
@@ -156,12 +140,13 @@ fn follow(heap: &[u32], queue: &mut [u32], tail: usize) -> usize
 }
 
 // Searches from all roots; answers how many cells are met.
-pub fn fill(control: &[u32], stack: &[u32], heap: &[u32], work: &mut [u32]) -> usize
-    requires { Markable control.now stack.now heap.now work.old }
-    ensures { Filled control.now stack.now heap.now work.old work.new result }
+pub fn fill(view: View<'_>, work: &mut [u32]) -> usize
+    requires { Markable view.control.now view.stack.now view.heap.now work.old }
+    ensures { Filled view.entry.control.now view.entry.stack.now view.entry.heap.now work.old work.new result }
 {
-    let h = control[H] as usize;
-    let t = enter_arguments(control, heap, &mut work[..h]);
-    let u = enter_cells(stack, heap, work, h, t);
-    follow(heap, &mut work[..h], u)
+    let (front, notes) = work.split_at_mut(view.heap.len());
+    let queue = &mut front[..view.control[H] as usize];
+    let t = enter_arguments(view.control, view.heap, queue);
+    let u = enter_cells(view.stack, notes, view.heap, queue, t);
+    follow(view.heap, queue, u)
 }

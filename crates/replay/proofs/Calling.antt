@@ -1,17 +1,14 @@
 -- What the answers of `collect` and `step_back` say of their verdicts: a call is granted exactly where its answer is no refusal.
 -- Assumes nothing.
+use Rattle.std.specs.Result.{is_ok}
+use Rattle.std.specs.Prelude.{Result, Ok, Err}
 use Prim.Native.Nat.{ℕ, suc, ◌-◌}
 use mathlib.Core.Path.{◌≡◌, refl, sym, ap, ◌∙◌}
 use mathlib.Core.Logic.{◌≢◌}
-use mathlib.Core.Bool.{true, false}
 use mathlib.Core.List.{List}
 use native.Mathlib.Omega.{arith}
-use Rattle.machine.specs.declared.Counts.{Counts}
 use Rattle.machine.specs.declared.Refusal.{Refusal}
 use Rattle.machine.specs.declared.Collected.{Collected}
-use Rattle.machine.specs.declared.Collected.TheVariants as collecting
-use Rattle.machine.specs.declared.Stepped.{Stepped}
-use Rattle.machine.specs.declared.Stepped.TheVariants as stepping
 use Rattle.machine.specs.Layout.{Image}
 use Rattle.machine.specs.Refusals.{Verdict, accepted, refused}
 use Rattle.machine.specs.Answers.{Answer, answer_of, counted, Collects, StepAnswer, step_answer_of, StepsBack}
@@ -29,18 +26,12 @@ not-zero : (b : ℕ) → b ≢ 0 → b ≡ suc (b - 1)
 not-zero b z = omega arith
 
 module _ {X Y : Image} {work work' : List ℕ} (b : ℕ) where
-  pub collect-granted : b ≡ 0 → {answer : Collected} {cells entries : Counts} → answer ≡ collecting.Done cells entries → Collects X work answer Y work' → Calls b X work true Y work'
-  unfolding answer_of
-  collect-granted z e c = rw z (collected (accepts _ _ (λ n. ap (λ (a : Answer). a.verdict) (c.refused n).0) (ap (λ (r : Collected). (answer_of r).verdict) e)) c)
-
-  pub collect-refused : b ≡ 0 → {answer : Collected} {r : Refusal} → answer ≡ collecting.Refused r → Collects X work answer Y work' → Calls b X work false Y work'
+  pub collect-calls : b ≡ 0 → (answer : Result Collected Refusal) → Collects X work answer Y work' → Calls b X work (is_ok answer) Y work'
   unfolding answer_of counted
-  collect-refused z {r = r} e c = rw z (not_collected (λ v. refusal-refuses r (ap (λ (r : Collected). (answer_of r).verdict) (sym e) ∙ ap (λ (a : Answer). a.verdict) (c.collected v).1)) c)
+  collect-calls z (Ok done) c = rw z (collected (accepts _ _ (λ n. ap (λ (a : Answer). a.verdict) (c.refused n).0) refl) c)
+  collect-calls z (Err r) c = rw z (not_collected (λ v. refusal-refuses r (ap (λ (a : Answer). a.verdict) (c.collected v).1)) c)
 
-  pub step-granted : b ≢ 0 → {answer : Stepped} {n : ℕ} → answer ≡ stepping.Undone n → StepsBack X work answer Y work' → Calls b X work true Y work'
+  pub step-calls : b ≢ 0 → (answer : Result ℕ Refusal) → StepsBack X work answer Y work' → Calls b X work (is_ok answer) Y work'
   unfolding step_answer_of
-  step-granted z e c = rw (not-zero b z) (stepped (accepts _ _ (λ n. ap (λ (a : StepAnswer). a.verdict) (c.refused n).0) (ap (λ (r : Stepped). (step_answer_of r).verdict) e)) c)
-
-  pub step-refused : b ≢ 0 → {answer : Stepped} {r : Refusal} → answer ≡ stepping.Refused r → StepsBack X work answer Y work' → Calls b X work false Y work'
-  unfolding step_answer_of
-  step-refused z {r = r} e c = rw (not-zero b z) (not_stepped (λ v. refusal-refuses r (ap (λ (r : Stepped). (step_answer_of r).verdict) (sym e) ∙ ap (λ (a : StepAnswer). a.verdict) (c.granted v).0)) c)
+  step-calls z (Ok n) c = rw (not-zero b z) (stepped (accepts _ _ (λ n. ap (λ (a : StepAnswer). a.verdict) (c.refused n).0) refl) c)
+  step-calls z (Err r) c = rw (not-zero b z) (not_stepped (λ v. refusal-refuses r (ap (λ (a : StepAnswer). a.verdict) (c.granted v).0)) c)

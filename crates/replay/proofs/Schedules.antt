@@ -1,5 +1,6 @@
 -- Demand 3 of the entries `collect` and `step_back`, by their contracts alone: what they do in a schedule is a run of that schedule, so the
 -- theorem on runs says that no call is refused and what can be read at the end. Assumes nothing.
+use Rattle.std.specs.Prelude.{Result}
 use Prim.Native.Nat.{ℕ, zero, suc, ◌+◌, ◌≤◌, ◌<◌}
 use mathlib.Core.Path.{◌≡◌, refl, sym, ap, ◌∙◌, subst}
 use mathlib.Core.Bool.{Bool, true, false}
@@ -17,7 +18,6 @@ use Rattle.machine.proofs.Steps.{stepped-steps, Steps}
 use Rattle.promise.specs.Demand.{Call, collecting, stepping, steps_in, Accepts, Grants, Plain, last, back, Run, stop, collect, step, NoneRefused}
 use Rattle.promise.proofs.Promise.{demand3}
 use Rattle.promise.proofs.Collecting.{collected-reads}
-use Rattle.replay.specs.declared.Replayed.{Replayed}
 use Rattle.replay.specs.Replays.{calls_of, collected, not_collected, not_stepped, Replays, finished, granted, refused, Kept, Demand3Met}
 use Rattle.replay.specs.Replays as replays
 
@@ -84,7 +84,7 @@ module _ {X Z : Image} {k : ℕ} (p : Plain X k Z) where
       let q = plain-front (steps_in (cs ++ (stepping ∷ []))) p (omega (arith, e)) in
       step-granted r (demand3 X (stepped W) q.0 (steps_in (cs ++ (stepping ∷ []))) (cs ++ (stepping ∷ [])) q.1 refl (run_step r)).none_refused
 
-  along : {W Y : Image} {cs : List Call} → Run X cs W → {i : ℕ} {work bytes final : List ℕ} {r : Replayed} → work_words W ≤ length work → steps_in cs + steps_in (calls_of bytes) ≡ k → Replays i W work bytes r Y final → Kept Y Z r
+  along : {W Y : Image} {cs : List Call} → Run X cs W → {i : ℕ} {work bytes final : List ℕ} {r : Result (Unit {0}) ℕ} → work_words W ≤ length work → steps_in cs + steps_in (calls_of bytes) ≡ k → Replays i W work bytes r Y final → Kept Y Z r
   unfolding steps_in
   along {W} {cs = cs} run room e finished =
       record { none_refused = refl; last_accepted = (demand3 X W Z k cs p (omega arith) run).last_accepted; same = (demand3 X W Z k cs p (omega arith) run).same }

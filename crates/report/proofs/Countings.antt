@@ -1,5 +1,6 @@
 -- What is counted of a file that is read into the fronts of the lent areas: an accepted file fills those fronts, so that its image is
 -- what the file holds and nothing else. Assumes nothing.
+use Rattle.std.specs.Prelude.{Ok, Err}
 use Prim.Native.Nat.{ℕ}
 use mathlib.Core.Path.{◌≡◌, sym, ap, ◌∙◌, subst}
 use mathlib.Core.List.{List, ◌++◌, append-nil}
@@ -17,11 +18,11 @@ use Rattle.freeze.specs.Verdicts as files
 use Rattle.freeze.specs.Thaw.{image_of, lengths_of, counts_in, image_in, control_at, stack_at, heap_at, trail_at, front, filled, thaw_verdict}
 use Rattle.freeze.proofs.WordLaws.{length-words}
 use Rattle.listing.specs.Lists.{thawed, taken, joined}
-use Rattle.tally.specs.declared.Counted.{Counted}
-use Rattle.tally.specs.declared.Counted.TheVariants.{Figures, Refused, BadFile}
+use Rattle.tally.specs.declared.Uncounted.TheVariants as uncounted
 use Rattle.tally.specs.Figures.{tally_of}
 use Rattle.tally.specs.Totals.{Lent}
 use Rattle.tally.specs.Counts as counts
+use Rattle.tally.specs.Counts.{Counted}
 use Rattle.tally.proofs.Within.{file-within}
 use Rattle.report.specs.First.{room_of, areas_of, image_of_file}
 use Rattle.report.specs.Parts.{Fronts, CountsFirst, bad_file, refused_image, counted, Figured}
@@ -116,16 +117,16 @@ module _ (file : List ℕ) (lent : Image) (work : List ℕ) (n : AreaCounts) (f 
 
   pub counts-first : {r : Counted} {left : Image} {work' : List ℕ} → counts.CountsFile file areas work r left work' → lengths_of left ≡ n → Left r left work'
   counts-first (counts.bad_file refusal v) l =
-      subst (λ (Z : Image). CountsFirst file lent work (BadFile refusal) Z work) (sym (put-fronts n lent)) (bad_file refusal (sym verdict-same ∙ v))
+      subst (λ (Z : Image). CountsFirst file lent work (Err (uncounted.File refusal)) Z work) (sym (put-fronts n lent)) (bad_file refusal (sym verdict-same ∙ v))
   counts-first (counts.refused_image refusal v w) l =
       let e = image-is v in
-      subst (λ (Z : Image). CountsFirst file lent work (Refused refusal) Z (work_after (taken file areas) work)) (sym (left-refused v))
-      (subst (λ (X : Image). CountsFirst file lent work (Refused refusal) (filled lent (image_of_file file)) (work_after X work)) (sym e)
+      subst (λ (Z : Image). CountsFirst file lent work (Err (uncounted.Image refusal)) Z (work_after (taken file areas) work)) (sym (left-refused v))
+      (subst (λ (X : Image). CountsFirst file lent work (Err (uncounted.Image refusal)) (filled lent (image_of_file file)) (work_after X work)) (sym e)
       (refused_image refusal (whole v) (sym (ap (verdict (length work)) e) ∙ w)))
   counts-first (counts.counted Y v w to) l =
-      subst (λ (X : Image). (to : CollectedTo X Y) → verdict (length work) X ≡ accepted → Left (Figures (tally_of to.cells to.entries X)) (joined (thawed file areas) Y) (work_after X work)) (sym (image-is v))
+      subst (λ (X : Image). (to : CollectedTo X Y) → verdict (length work) X ≡ accepted → Left (Ok (tally_of to.cells to.entries X)) (joined (thawed file areas) Y) (work_after X work)) (sym (image-is v))
       (λ to w.
-      subst (λ (Z : Image). CountsFirst file lent work (Figures (tally_of to.cells to.entries (image_of_file file))) Z (work_after (image_of_file file) work)) (sym (left-counted v to l))
+      subst (λ (Z : Image). CountsFirst file lent work (Ok (tally_of to.cells to.entries (image_of_file file))) Z (work_after (image_of_file file) work)) (sym (left-counted v to l))
       (counted Y (whole v) w to))
       to w
 

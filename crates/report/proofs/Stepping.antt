@@ -1,7 +1,7 @@
 -- What the parts of a step promise, put together: which outcome a file has, and what `next` leaves. Assumes nothing.
+use Rattle.std.specs.Prelude.{Some, None, Ok, Err}
 use Prim.Native.Nat.{ℕ, ◌+◌, ◌≤◌, ◌<◌}
 use mathlib.Core.Path.{◌≡◌, refl, sym, ◌∙◌, subst}
-use mathlib.Core.Bool.{true, false}
 use mathlib.Core.List.{List, [], ◌∷◌, ◌++◌}
 use native.Mathlib.Omega.{arith}
 use lib.ListN.{length, length-take}
@@ -14,7 +14,7 @@ use Rattle.freeze.specs.Verdicts as files
 use Rattle.freeze.specs.Thaw.{thaw_verdict}
 use Rattle.listing.specs.Text.{file_text}
 use Rattle.tally.specs.declared.Tally.{Tally}
-use Rattle.tally.specs.declared.Counted.TheVariants.{Figures, Refused, BadFile}
+use Rattle.tally.specs.declared.Uncounted.TheVariants as uncounted
 use Rattle.tally.specs.Totals.{files_most}
 use Rattle.text.specs.Line.{ascii}
 use Rattle.report.specs.declared.Month.{Month}
@@ -42,7 +42,7 @@ module _ (lent : Image) (work : List ℕ) (month : Month) (window : List ℕ) wh
   no-file : length window ≡ 0 → file ≡ []
   no-file z = empty file (simp length-take (omega arith))
 
-  pub bad-verdict : {refusal : FileRefusal} {left : Image} {work' : List ℕ} → parts.CountsFirst file lent work (BadFile refusal) left work' → thaw_verdict (areas_of (room_of lent)) file ≡ files.verdict_of refusal
+  pub bad-verdict : {refusal : FileRefusal} {left : Image} {work' : List ℕ} → parts.CountsFirst file lent work (Err (uncounted.File refusal)) left work' → thaw_verdict (areas_of (room_of lent)) file ≡ files.verdict_of refusal
   bad-verdict (parts.bad_file _ v) = v
 
   -- the offset of a fault is not far from the start of the file
@@ -53,7 +53,7 @@ module _ (lent : Image) (work : List ℕ) (month : Month) (window : List ℕ) wh
   opened h room = record { some = some-file h; room = room }
 
   module _ {output : List ℕ} {at : ℕ} {r : Step} {output' : List ℕ} where
-    pub next-ended : length window ≡ 0 → Answers false 0 month (closing month ++ ascii "end\n") output at r output' → Nexts lent work month window output at r lent work output'
+    pub next-ended : length window ≡ 0 → Answers None (closing month ++ ascii "end\n") output at r output' → Nexts lent work month window output at r lent work output'
     next-ended z a = record { outcome = closes (closing month ++ ascii "end\n"); steps = ended (no-file z); answer = a; areas = refl; work-is = refl }
 
     pub next-too_many : 0 < length window → files_most ≤ month.files → parts.Stops month (After 0) output at r output' → Nexts lent work month window output at r lent work output'
@@ -67,13 +67,13 @@ module _ (lent : Image) (work : List ℕ) (month : Month) (window : List ℕ) wh
         record {
           outcome = closes (closing month ++ file_text 13 month.start);
           steps = too_many (some-file h) m;
-          answer = subst (λ (text : List ℕ). Answers false 0 month text output at r output') t s.answer;
+          answer = subst (λ (text : List ℕ). Answers None text output at r output') t s.answer;
           areas = refl;
           work-is = refl;
         }
 
     module _ (h : 0 < length window) (room : month.files < files_most) where
-      pub next-bad : (refusal : FileRefusal) {left : Image} {work' : List ℕ} → parts.CountsFirst file lent work (BadFile refusal) left work' → parts.Stops month refusal output at r output'
+      pub next-bad : (refusal : FileRefusal) {left : Image} {work' : List ℕ} → parts.CountsFirst file lent work (Err (uncounted.File refusal)) left work' → parts.Stops month refusal output at r output'
           → Nexts lent work month window output at r left work' output'
       next-bad refusal (parts.bad_file _ v) s = record {
         outcome = closes (closing month ++ file_text s.number (month.start + s.offset));
@@ -83,7 +83,7 @@ module _ (lent : Image) (work : List ℕ) (month : Month) (window : List ℕ) wh
         work-is = refl;
       }
 
-      pub next-refused : (refusal : Refusal) {left : Image} {work' : List ℕ} → parts.CountsFirst file lent work (Refused refusal) left work' → parts.Refuses month (length file) refusal output at r output'
+      pub next-refused : (refusal : Refusal) {left : Image} {work' : List ℕ} → parts.CountsFirst file lent work (Err (uncounted.Image refusal)) left work' → parts.Refuses month (length file) refusal output at r output'
           → Nexts lent work month window output at r left work' output'
       next-refused refusal (parts.refused_image _ v w) s = record {
         outcome = goes_on (refused_file (month.files + 1) (refused s.number s.place)) (with_refused (length file) s.number month) (image_of_file file);
@@ -93,8 +93,8 @@ module _ (lent : Image) (work : List ℕ) (month : Month) (window : List ℕ) wh
         work-is = refl;
       }
 
-      pub next-counted : (figures : Tally) {left : Image} {work' : List ℕ} → parts.CountsFirst file lent work (Figures figures) left work'
-          → Answers true (length file) (with_figures (length file) figures month) (counted_file (month.files + 1) figures) output at r output'
+      pub next-counted : (figures : Tally) {left : Image} {work' : List ℕ} → parts.CountsFirst file lent work (Ok figures) left work'
+          → Answers (Some (record { used = length file; month = with_figures (length file) figures month })) (counted_file (month.files + 1) figures) output at r output'
           → Nexts lent work month window output at r left work' output'
       next-counted figures (parts.counted Y v w to) a = record {
         outcome = goes_on (counted_file (month.files + 1) figures) (with_figures (length file) figures month) Y;

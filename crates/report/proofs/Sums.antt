@@ -1,5 +1,6 @@
 -- The closing lines of a report are sums over its files: each step adds its own file to the month, so that the month at the end has
 -- what the month before and the files after it have together. Assumes nothing.
+use Rattle.std.specs.Prelude.{Ok}
 use Prim.Native.Nat.{ℕ, ◌+◌, ◌<◌}
 use mathlib.Core.Path.{◌≡◌, refl, sym, ap, ◌∙◌, subst}
 use mathlib.Core.List.{List, [], ◌++◌, map, append_assoc}
@@ -14,7 +15,6 @@ use Rattle.machine.specs.Layout.{Image}
 use Rattle.freeze.specs.declared.AreaCounts.{AreaCounts}
 use Rattle.listing.specs.Text.{file_text}
 use Rattle.tally.specs.declared.Tally.{Tally}
-use Rattle.tally.specs.declared.Counted.TheVariants.{Figures}
 use Rattle.tally.specs.Figures.{figure}
 use Rattle.tally.specs.Totals.{total_from}
 use Rattle.tally.proofs.Totals.{total-is-sum, deepest-is-largest}
@@ -41,7 +41,7 @@ one_more l m n h =
 module _ {room : AreaCounts} {work : ℕ} where
   -- one step
   step-total : {month : Month} {file : List ℕ} {month' : Month} {text : List ℕ} {left : Image} (s : Steps room work month file (goes_on text month' left)) (later : List Tally)
-      → total_from month.total (map Figures (add_figures s later)) ≡ total_from month'.total (map Figures later)
+      → total_from month.total (map Ok (add_figures s later)) ≡ total_from month'.total (map Ok later)
   unfolding add_figures with_figures with_refused total_from
   step-total (refused_image number place opened whole v) later = refl
   step-total (counted Y opened whole v to) later = refl
@@ -76,7 +76,7 @@ module _ {room : AreaCounts} {work : ℕ} where
       let c = closed_in r in
       record { lines = text ++ c.lines; end = c.end; is = ap (λ (t : List ℕ). text ++ t) c.is ∙ sym (append_assoc text c.lines (closing (last_month r) ++ c.end)) }
 
-  total-in : {month : Month} {rest text : List ℕ} (r : Reports room work month rest text) → (last_month r).total ≡ total_from month.total (map Figures (figures_in r))
+  total-in : {month : Month} {rest text : List ℕ} (r : Reports room work month rest text) → (last_month r).total ≡ total_from month.total (map Ok (figures_in r))
   unfolding last_month figures_in total_from
   total-in (last s) = refl
   total-in (more s r) = total-in r ∙ sym (step-total s (figures_in r))
@@ -94,8 +94,8 @@ module _ {room : AreaCounts} {work : ℕ} where
 pub end-is-sum : EndIsSum
 end-is-sum room work rest text r = record {
   closed = closed_in r;
-  sums = λ f. ap (figure f) (total-in r) ∙ total-is-sum f (map Figures (figures_in r));
-  deepest = ap (λ (t : Tally). t.deepest) (total-in r) ∙ deepest-is-largest (map Figures (figures_in r));
+  sums = λ f. ap (figure f) (total-in r) ∙ total-is-sum f (map Ok (figures_in r));
+  deepest = ap (λ (t : Tally). t.deepest) (total-in r) ∙ deepest-is-largest (map Ok (figures_in r));
   accepted = omega (arith, accepted-in r);
   refused = λ n h. omega (arith, refused-in r n (omega (arith, length-replicate {A = ℕ} numbers 0)), get_or-zeros numbers n);
 }

@@ -1,5 +1,5 @@
 -- What the inner functions of the report promise one another. No public promise cites this page. Assumes nothing.
-use Rattle.std.specs.Prelude.{ℕ, ◌+◌, ◌≤◌, ◌≡◌, true, false, List, ◌++◌, length}
+use Rattle.std.specs.Prelude.{ℕ, ◌+◌, ◌≤◌, ◌≡◌, Some, None, Ok, Err, List, ◌++◌, length}
 use Rattle.machine.specs.declared.Refusal.{Refusal}
 use Rattle.machine.specs.Layout.{Image}
 use Rattle.machine.specs.Refusals.{Where, accepted, refused, verdict}
@@ -9,10 +9,10 @@ use Rattle.freeze.specs.declared.AreaCounts.{AreaCounts}
 use Rattle.freeze.specs.declared.FileRefusal.{FileRefusal}
 use Rattle.freeze.specs.Verdicts as files
 use Rattle.freeze.specs.Thaw.{lengths_of, counts_in, filled, thaw_verdict}
-use Rattle.tally.specs.declared.Counted.{Counted}
-use Rattle.tally.specs.declared.Counted.TheVariants.{Figures, Refused, BadFile}
+use Rattle.tally.specs.declared.Uncounted.TheVariants as uncounted
 use Rattle.tally.specs.Figures.{tally_of}
 use Rattle.tally.specs.Totals.{Within}
+use Rattle.tally.specs.Counts.{Counted}
 use Rattle.listing.specs.Text.{file_text}
 use Rattle.report.specs.declared.Month.{Month}
 use Rattle.report.specs.declared.Step.{Step}
@@ -39,17 +39,16 @@ pub record Fronts (room : AreaCounts) (file : List ℕ) (fronts : AreaCounts) : 
 
 -- what is counted of a file that is read into the fronts of the lent areas
 pub data CountsFirst (file : List ℕ) (lent : Image) (work : List ℕ) : Counted → Image → List ℕ → Type 0 where
-  bad_file : (refusal : FileRefusal) → thaw_verdict (areas_of (room_of lent)) file ≡ files.verdict_of refusal → CountsFirst file lent work (BadFile refusal) lent work
+  bad_file : (refusal : FileRefusal) → thaw_verdict (areas_of (room_of lent)) file ≡ files.verdict_of refusal → CountsFirst file lent work (Err (uncounted.File refusal)) lent work
   refused_image : (refusal : Refusal) → thaw_verdict (areas_of (room_of lent)) file ≡ files.accepted → verdict (length work) (image_of_file file) ≡ verdict_of refusal
-      → CountsFirst file lent work (Refused refusal) (filled lent (image_of_file file)) (work_after (image_of_file file) work)
+      → CountsFirst file lent work (Err (uncounted.Image refusal)) (filled lent (image_of_file file)) (work_after (image_of_file file) work)
   counted : (Y : Image) → thaw_verdict (areas_of (room_of lent)) file ≡ files.accepted → verdict (length work) (image_of_file file) ≡ accepted → (to : CollectedTo (image_of_file file) Y)
-      → CountsFirst file lent work (Figures (tally_of to.cells to.entries (image_of_file file))) (filled lent Y) (work_after (image_of_file file) work)
+      → CountsFirst file lent work (Ok (tally_of to.cells to.entries (image_of_file file))) (filled lent Y) (work_after (image_of_file file) work)
 
 -- figures are those of a file of no more than those sizes
 abbrev pub Figured : Counted → Type 0
-Figured (Figures figures) = Within 1 figures
-Figured (Refused refusal) = Unit {0}
-Figured (BadFile refusal) = Unit {0}
+Figured (Ok figures) = Within 1 figures
+Figured (Err why) = Unit {0}
 
 -- a fault at an offset within a file
 abbrev pub Near : FileRefusal → Type 0
@@ -60,11 +59,11 @@ pub record Stops (month : Month) (refusal : FileRefusal) (output : List ℕ) (at
   pub number : ℕ
   pub offset : ℕ
   pub verdict-is : files.verdict_of refusal ≡ files.refused number offset
-  pub answer : Answers false 0 month (closing month ++ file_text number (month.start + offset)) output at r output'
+  pub answer : Answers None (closing month ++ file_text number (month.start + offset)) output at r output'
 
 -- the line of a refused image, which counts under its number
 pub record Refuses (month : Month) (used : ℕ) (refusal : Refusal) (output : List ℕ) (at : ℕ) (r : Step) (output' : List ℕ) : Type 0 where
   pub number : ℕ
   pub place : Where
   pub verdict-is : verdict_of refusal ≡ refused number place
-  pub answer : Answers true used (with_refused used number month) (refused_file (month.files + 1) (refused number place)) output at r output'
+  pub answer : Answers (Some (record { used = used; month = with_refused used number month })) (refused_file (month.files + 1) (refused number place)) output at r output'

@@ -62,7 +62,10 @@ pub data Steps (room : AreaCounts) (work : ℕ) (month : Month) (file : List ℕ
   refused_image : (number : ℕ) (place : Where) → Opened month file → thaw_verdict (areas_of room) file ≡ files.accepted → verdict work (image_of_file file) ≡ refused number place
       → Steps room work month file (goes_on (refused_file (month.files + 1) (refused number place)) (with_refused (length file) number month) (image_of_file file))
   counted : (Y : Image) → Opened month file → thaw_verdict (areas_of room) file ≡ files.accepted → verdict work (image_of_file file) ≡ accepted → (to : CollectedTo (image_of_file file) Y)
-      → Steps room work month file (goes_on (counted_file (month.files + 1) (tally_of to.cells to.entries (image_of_file file))) (with_figures (length file) (tally_of to.cells to.entries (image_of_file file)) month) Y)
+      → Steps room work month file (goes_on
+      (counted_file (month.files + 1) (tally_of to.cells to.entries (image_of_file file)))
+      (with_figures (length file) (tally_of to.cells to.entries (image_of_file file)) month)
+      Y)
 
 -- "figures over a month of freeze files laid end to end": the text of a report over what is left of the input, after the month so far
 pub data Reports (room : AreaCounts) (work : ℕ) : Month → List ℕ → List ℕ → Type 0 where

@@ -1,10 +1,9 @@
 -- What the closing lines of a report add up to. Document 02, order 1. Assumes nothing.
-use Rattle.std.specs.Prelude.{ℕ, ◌+◌, ◌<◌, ◌≡◌, List, [], ◌∷◌, ◌++◌, map, length, get_or, eqb}
+use Rattle.std.specs.Prelude.{ℕ, ◌+◌, ◌<◌, ◌≡◌, Ok, List, [], ◌∷◌, ◌++◌, map, length, get_or, eqb}
 use Rattle.cell.specs.Word.{pick}
 use Rattle.machine.specs.Layout.{Image}
 use Rattle.freeze.specs.declared.AreaCounts.{AreaCounts}
 use Rattle.tally.specs.declared.Tally.{Tally}
-use Rattle.tally.specs.declared.Counted.TheVariants.{Figures}
 use Rattle.tally.specs.Figures.{Figure, figure, tally_of}
 use Rattle.tally.specs.Totals.{adds, deepest_of_file, sum, largest}
 use Rattle.report.specs.declared.Month.{Month}
@@ -53,8 +52,8 @@ pub record Closed (month : Month) (text : List ℕ) : Type 0 where
 -- number and adds nothing else."
 pub record Summed {room : AreaCounts} {work : ℕ} {rest text : List ℕ} (r : Reports room work begun rest text) : Type 0 where
   pub closed : Closed (last_month r) text
-  pub sums : (f : Figure) → figure f (last_month r).total ≡ sum (adds f) (map Figures (figures_in r))
-  pub deepest : (last_month r).total.deepest ≡ largest deepest_of_file (map Figures (figures_in r))
+  pub sums : (f : Figure) → figure f (last_month r).total ≡ sum (adds f) (map Ok (figures_in r))
+  pub deepest : (last_month r).total.deepest ≡ largest deepest_of_file (map Ok (figures_in r))
   pub accepted : (last_month r).accepted ≡ length (figures_in r)
   pub refused : (number : ℕ) → number < numbers → get_or (last_month r).refused number 0 ≡ times number (numbers_in r)
 

@@ -1,41 +1,37 @@
 // The first of the files laid end to end: how many bytes it has, and its figures.
-ghost use Rattle.std.specs.Prelude.{◌≡◌, min, max, ◌≤◌, length};
+ghost use Rattle.std.specs.Prelude.{◌≡◌, min, ◌≤◌, length};
 ghost use Rattle.freeze.specs.Thaw.{image_of};
 ghost use Rattle.report.specs.First.{sizes, first_file};
 ghost use Rattle.report.specs.Parts.{Sized, Fronts, CountsFirst, Figured};
 
 use freeze::AreaCounts;
-use tally::Counted;
+use tally::{Tally, Uncounted};
 
 // The listing program's sizes; its control area holds what a legal one holds.
-const STACK_WORDS: usize = 1024;
+const SIZES: AreaCounts = AreaCounts {
+    control: machine::FIXED + machine::ARGUMENTS_MOST,
+    stack: 1024,
+    heap: 2048,
+    trail: 512,
+};
 
-const HEAP_CELLS: usize = 2048;
-
-const TRAIL_ENTRIES: usize = 512;
-
-fn least(a: usize, b: usize) -> usize
-    ensures { result ≡ min a b }
+// Of each area the lesser count.
+fn least(a: AreaCounts, b: AreaCounts) -> AreaCounts
+    ensures { result ≡ record { control = min a.control b.control; stack = min a.stack b.stack; heap = min a.heap b.heap; trail = min a.trail b.trail } }
 {
-    if a < b { a } else { b }
-}
-
-fn greatest(a: usize, b: usize) -> usize
-    ensures { result ≡ max a b }
-{
-    if a < b { b } else { a }
+    AreaCounts {
+        control: a.control.min(b.control),
+        stack: a.stack.min(b.stack),
+        heap: a.heap.min(b.heap),
+        trail: a.trail.min(b.trail),
+    }
 }
 
 // The room for a file in areas of these lengths.
-pub fn room_in(control: usize, stack: usize, heap: usize, trail: usize) -> AreaCounts
-    ensures { result ≡ record { control = min control sizes.control; stack = min stack sizes.stack; heap = min heap sizes.heap; trail = min trail sizes.trail } }
+pub fn room_in(lent: AreaCounts) -> AreaCounts
+    ensures { result ≡ record { control = min lent.control sizes.control; stack = min lent.stack sizes.stack; heap = min lent.heap sizes.heap; trail = min lent.trail sizes.trail } }
 {
-    AreaCounts {
-        control: least(control, machine::FIXED + machine::ARGUMENTS_MOST),
-        stack: least(stack, STACK_WORDS),
-        heap: least(heap, HEAP_CELLS),
-        trail: least(trail, TRAIL_ENTRIES),
-    }
+    least(lent, SIZES)
 }
 
 // How many bytes the first file has, of those that are there.
@@ -51,7 +47,7 @@ pub fn first_length(window: &[u8], room: AreaCounts) -> usize
     if !freeze::within(n, room) {
         return head;
     }
-    least(freeze::file_length(n), window.len())
+    freeze::file_length(n).min(window.len())
 }
 
 // As much of each area as the file is read into, so that no work is done for the rest.
@@ -63,12 +59,11 @@ fn fronts(file: &[u8], room: AreaCounts) -> AreaCounts
         return room;
     }
     let n = freeze::counts_in(file);
-    AreaCounts {
-        control: least(room.control, greatest(machine::FIXED, n.control)),
-        stack: least(room.stack, n.stack),
-        heap: least(room.heap, n.heap),
-        trail: least(room.trail, n.trail),
-    }
+    let counted = AreaCounts {
+        control: n.control.max(machine::FIXED),
+        ..n
+    };
+    least(room, counted)
 }
 
 // The figures of a file, or why it has none.
@@ -79,22 +74,23 @@ pub fn count_first(
     heap: &mut [u32],
     trail: &mut [u32],
     work: &mut [u32],
-) -> Counted
+) -> Result<Tally, Uncounted>
     ensures counts_first { CountsFirst file.now (image_of control.old stack.old heap.old trail.old) work.old result (image_of control.new stack.new heap.new trail.new) work.new }
     ensures figured { Figured result }
 {
-    let room = room_in(control.len(), stack.len(), heap.len(), trail.len());
+    let room = room_in(AreaCounts {
+        control: control.len(),
+        stack: stack.len(),
+        heap: heap.len(),
+        trail: trail.len(),
+    });
     let front = fronts(file, room);
-    let a = front.control;
-    let b = front.stack;
-    let c = front.heap;
-    let d = front.trail;
     tally::count_file(
         file,
-        &mut control[..a],
-        &mut stack[..b],
-        &mut heap[..c],
-        &mut trail[..d],
+        &mut control[..front.control],
+        &mut stack[..front.stack],
+        &mut heap[..front.heap],
+        &mut trail[..front.trail],
         work,
     )
 }

@@ -6,15 +6,15 @@ mod first;
 mod lines;
 mod steps;
 
-ghost use Rattle.std.specs.Prelude.{◌≡◌};
+ghost use Rattle.std.specs.Prelude.{◌≡◌, IfSome};
 ghost use Rattle.freeze.specs.Thaw.{image_of};
 ghost use Rattle.report.specs.Reports.{begun};
 ghost use Rattle.report.specs.Nexts.{Nexts, Possible};
 
 use first::{count_first, first_length, room_in};
-use freeze::FileRefusal;
+use freeze::{AreaCounts, FileRefusal};
 use steps::{count, end, refuse, stop};
-use tally::{Counted, Tally};
+use tally::{Tally, Uncounted};
 
 // "up to 65,535 of them"
 pub const FILES_MOST: u64 = 65535;
@@ -35,31 +35,33 @@ pub struct Month {
     pub accepted: u64,
     pub start: u64,
     pub total: Tally,
-    pub refused: [u64; 32],
+    pub refused: [u64; NUMBERS],
 }
 
-// What a step answers: whether the report goes on, how many bytes of the window the file had, the output's next place, and the month
-// with this file.
+// How a report goes on after a file: how many bytes of the window the file had, and the month with it.
+#[derive(Clone, Copy)]
+pub struct GoesOn {
+    pub used: usize,
+    pub month: Month,
+}
+
+// What a step answers: the output's next place, and how the report goes on, unless it is closed.
 #[derive(Clone, Copy)]
 pub struct Step {
-    pub more: bool,
-    pub used: usize,
     pub at: usize,
-    pub month: Month,
+    pub next: Option<GoesOn>,
 }
 
 // Before the first file.
 pub fn begin() -> Month
     ensures { (result ≡ begun) × Possible result }
 {
-    let total = Tally::empty();
-    let refused = [0u64; 32];
     Month {
         files: 0,
         accepted: 0,
         start: 0,
-        total,
-        refused,
+        total: Tally::empty(),
+        refused: [0; NUMBERS],
     }
 }
 
@@ -78,19 +80,24 @@ pub fn next(
 ) -> Step
     requires { Possible month }
     ensures nexts { Nexts (image_of control.old stack.old heap.old trail.old) work.old month window.now output.old at result (image_of control.new stack.new heap.new trail.new) work.new output.new }
-    ensures possible { Possible result.month }
+    ensures possible { IfSome result.next (λ next. Possible next.month) }
 {
-    if window.len() == 0 {
+    if window.is_empty() {
         return end(output, at, month);
     }
     if FILES_MOST <= month.files {
         return stop(output, at, month, FileRefusal::After(0));
     }
-    let room = room_in(control.len(), stack.len(), heap.len(), trail.len());
+    let room = room_in(AreaCounts {
+        control: control.len(),
+        stack: stack.len(),
+        heap: heap.len(),
+        trail: trail.len(),
+    });
     let used = first_length(window, room);
     match count_first(&window[..used], control, stack, heap, trail, work) {
-        Counted::Figures(figures) => count(output, at, month, used, figures),
-        Counted::Refused(refusal) => refuse(output, at, month, used, refusal),
-        Counted::BadFile(refusal) => stop(output, at, month, refusal),
+        Ok(figures) => count(output, at, month, used, figures),
+        Err(Uncounted::Image(refusal)) => refuse(output, at, month, used, refusal),
+        Err(Uncounted::File(refusal)) => stop(output, at, month, refusal),
     }
 }

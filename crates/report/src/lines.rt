@@ -5,7 +5,7 @@ ghost use Rattle.text.specs.Puts.{PutsShort};
 ghost use Rattle.report.specs.Text.{tags_text, cells_text, entries_text, chains_text, figures_text, counted_file, refused_file, number_line, number_lines, closing};
 ghost use Rattle.report.specs.Most.{tags_most, cells_most, entries_most, chains_most, figures_most, counted_most, refused_file_most, number_line_most, number_lines_most, closing_most};
 
-use crate::{Month, NUMBERS};
+use crate::Month;
 use listing::put_refusal;
 use machine::Refusal;
 use tally::{Tags, Tally};
@@ -26,11 +26,9 @@ fn put_cells(output: &mut [u8], at: usize, figures: Tally) -> usize
     ensures { PutsShort cells_most output.old at (cells_text figures) result output.new }
 {
     let kept_at = put_bytes(output, at, b" kept");
-    let kept = figures.kept;
-    let dropped_at = put_tags(output, kept_at, kept);
+    let dropped_at = put_tags(output, kept_at, figures.kept);
     let counts_at = put_bytes(output, dropped_at, b" dropped");
-    let dropped = figures.dropped;
-    put_tags(output, counts_at, dropped)
+    put_tags(output, counts_at, figures.dropped)
 }
 
 // Trail entries kept and dropped.
@@ -98,12 +96,9 @@ fn put_number(output: &mut [u8], at: usize, number: usize, count: u64) -> usize
 fn put_numbers(output: &mut [u8], from: usize, month: Month) -> usize
     ensures { PutsShort number_lines_most output.old from (number_lines 0 month.refused) result output.new }
 {
-    let refused = month.refused;
     let mut at = from;
-    let mut number = 0;
-    while number < NUMBERS {
-        at = put_number(output, at, number, refused[number]);
-        number += 1;
+    for (number, &count) in month.refused.iter().enumerate() {
+        at = put_number(output, at, number, count);
     }
     at
 }
@@ -114,7 +109,6 @@ pub fn put_closing(output: &mut [u8], at: usize, month: Month) -> usize
 {
     let accepted_at = put_bytes(output, at, b"all");
     let figures_at = put_spaced(output, accepted_at, month.accepted as usize);
-    let total = month.total;
-    let refused_at = put_figures(output, figures_at, total);
+    let refused_at = put_figures(output, figures_at, month.total);
     put_numbers(output, refused_at, month)
 }

@@ -101,10 +101,10 @@ on_stack i = stack_base + i
 abbrev on_heap : ℕ → ℕ
 on_heap x = x
 
-pub entry-on-heap : {heap stack : List ℕ} {entry : ℕ} → Undoable (entry ∷ []) heap stack 0 1 → entry < stack_base → entry < length heap
+entry-on-heap : {heap stack : List ℕ} {entry : ℕ} → Undoable (entry ∷ []) heap stack 0 1 → entry < stack_base → entry < length heap
 entry-on-heap u l = u.heap_entries 0 (omega arith) (omega arith) l
 
-pub entry-on-stack : {heap stack : List ℕ} {entry : ℕ} → Undoable (entry ∷ []) heap stack 0 1 → stack_base ≤ entry → entry - stack_base < length stack
+entry-on-stack : {heap stack : List ℕ} {entry : ℕ} → Undoable (entry ∷ []) heap stack 0 1 → stack_base ≤ entry → entry - stack_base < length stack
 entry-on-stack u l = u.stack_entries 0 (omega arith) (omega arith) l
 
 pub undid-on-heap : {heap stack : List ℕ} {entry : ℕ} → Undoable (entry ∷ []) heap stack 0 1 → entry < stack_base → (v : ℕ) → v ≡ unbound entry → Undid (entry ∷ []) 0 1 heap stack (set heap entry v) stack
@@ -119,48 +119,20 @@ undid-on-stack {heap} {stack} {entry} u l v e = record {
   on_stack = words-store on_stack entry stack (entry - stack_base) v (entry-on-stack u l) (omega arith) e (λ k n z. n (omega arith));
 }
 
--- the turn i of `undo`
-pub record Undoing (trail : List ℕ) (a z : ℕ) (heap₀ stack₀ heap stack : List ℕ) (i : ℕ) : Type 0 where
-  pub low : a ≤ i
-  pub high : i ≤ z
-  pub did : Undid trail a i heap₀ stack₀ heap stack
+-- no entry is undone, and one more
+pub undid-none : (trail heap stack : List ℕ) (a : ℕ) → Undid trail a (a + 0) heap stack heap stack
+undid-none trail heap stack a =
+    let e : a + 0 ≡ a = omega arith in
+    rw e (record { on_heap = words-none on_heap trail heap a; on_stack = words-none on_stack trail stack a })
 
-pub undoing-none : {trail heap stack : List ℕ} {a z : ℕ} → Undoable trail heap stack a z → Undoing trail a z heap stack heap stack a
-undoing-none {trail} {heap} {stack} {a} u = record {
-  low = omega arith;
-  high = u.order;
-  did = record { on_heap = words-none on_heap trail heap a; on_stack = words-none on_stack trail stack a };
-}
-
-pub undoing-more : {trail heap₀ stack₀ heap stack heap' stack' : List ℕ} {a z i : ℕ} → Undoing trail a z heap₀ stack₀ heap stack i → i < z → Undid (get_or trail i 0 ∷ []) 0 1 heap stack heap' stack' → Undoing trail a z heap₀ stack₀ heap' stack' (i + 1)
-undoing-more {trail} {heap₀} {stack₀} {heap} {stack} {heap'} {stack'} {a} {z} {i} u l d = record {
-  low = omega (arith, u.low);
-  high = omega arith;
-  did = record {
-    on_heap = words_more on_heap trail a i u.low heap₀ heap heap' u.did.on_heap d.on_heap;
-    on_stack = words_more on_stack trail a i u.low stack₀ stack stack' u.did.on_stack d.on_stack;
-  };
-}
-
-pub undid-heap-length : {trail heap₀ stack₀ heap stack : List ℕ} {a i : ℕ} → Undid trail a i heap₀ stack₀ heap stack → length heap ≡ length heap₀
-undid-heap-length {trail} {heap₀} {a = a} {i = i} d = ap length d.on_heap ∙ length-each (λ (x : ℕ) (w : ℕ). undone_word trail a i x w) 0 heap₀
+pub undid-more : {trail heap₀ stack₀ heap stack heap' stack' : List ℕ} {a entry : ℕ} (i : ℕ) → Undid trail a (a + i) heap₀ stack₀ heap stack → entry ≡ get_or trail (a + i) 0 → Undid (entry ∷ []) 0 1 heap stack heap' stack' → Undid trail a (a + (i + 1)) heap₀ stack₀ heap' stack'
+undid-more {trail} {heap₀} {stack₀} {heap} {stack} {heap'} {stack'} {a} {entry} i u e d =
+    let f : a + (i + 1) ≡ a + i + 1 = omega arith in
+    let one = rw e at d in
+    rw f (record {
+      on_heap = words_more on_heap trail a (a + i) (omega arith) heap₀ heap heap' u.on_heap one.on_heap;
+      on_stack = words_more on_stack trail a (a + i) (omega arith) stack₀ stack stack' u.on_stack one.on_stack;
+    })
 
 pub undid-stack-length : {trail heap₀ stack₀ heap stack : List ℕ} {a i : ℕ} → Undid trail a i heap₀ stack₀ heap stack → length stack ≡ length stack₀
 undid-stack-length {trail} {heap₀} {stack₀} {a = a} {i = i} d = ap length d.on_stack ∙ length-each (λ (x : ℕ) (w : ℕ). undone_word trail a i (stack_base + x) w) 0 stack₀
-
--- the entry at i names a word
-pub entry-undoable : {trail heap₀ stack₀ heap stack : List ℕ} {a z i : ℕ} → Undoable trail heap₀ stack₀ a z → Undoing trail a z heap₀ stack₀ heap stack i → i < z → Undoable (get_or trail i 0 ∷ []) heap stack 0 1
-entry-undoable {i = i} u t l =
-    let h = undid-heap-length t.did in
-    let s = undid-stack-length t.did in
-    record {
-      order = omega arith;
-      inside = omega arith;
-      heap_entries = λ k a b. let e : k ≡ 0 = omega arith in rw e (λ o. omega (arith, u.heap_entries i t.low l o));
-      stack_entries = λ k a b. let e : k ≡ 0 = omega arith in rw e (λ o. omega (arith, u.stack_entries i t.low l o));
-      low_heap = omega (arith, u.low_heap);
-      low_stack = omega (arith, u.low_stack);
-    }
-
-pub undoing-end : {trail heap₀ stack₀ heap stack : List ℕ} {a z i : ℕ} → Undoing trail a z heap₀ stack₀ heap stack i → z ≤ i → Undid trail a z heap₀ stack₀ heap stack
-undoing-end {z = z} {i = i} t l = let e : i ≡ z = omega (arith, t.high) in rw e at t.did

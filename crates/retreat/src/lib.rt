@@ -8,8 +8,7 @@ ghost use Rattle.machine.proofs.Accepted.{Accepted};
 ghost use Rattle.retreat.specs.Undo.{copied_word, Undoable, Undid};
 ghost use Rattle.retreat.specs.Retreat.{Retreats};
 
-use cells::Checked;
-use machine::{B, FIXED, N, NONE, Refusal, Stepped, T};
+use machine::{B, FIXED, N, NONE, Refusal, T, View};
 
 // Sets the cell of one trail entry to unbound, in heap or stack.
 fn undo_entry(heap: &mut [u32], stack: &mut [u32], entry: u32)
@@ -30,10 +29,8 @@ fn undo(trail: &[u32], heap: &mut [u32], stack: &mut [u32], a: usize, z: usize)
     requires { Undoable trail.now heap.old stack.old a z }
     ensures { Undid trail.now a z heap.old stack.old heap.new stack.new }
 {
-    let mut i = a;
-    while i < z {
-        undo_entry(heap, stack, trail[i]);
-        i += 1;
+    for &entry in &trail[a..z] {
+        undo_entry(heap, stack, entry);
     }
 }
 
@@ -42,33 +39,34 @@ fn copy(control: &mut [u32], stack: &[u32], b: usize, count: usize)
     requires { (count ≤ length control.old) × (b + count ≤ length stack.now) }
     ensures { control.new ≡ each (copied_word stack.now b count) 0 control.old }
 {
-    let mut i = 0;
-    while i < count {
-        control[i] = stack[b + i];
-        i += 1;
-    }
+    control[..count].copy_from_slice(&stack[b..b + count]);
 }
 
 // The step back from an image that passes 1 to 7 and 17.
-fn retreat(control: &mut [u32], stack: &mut [u32], heap: &mut [u32], trail: &[u32]) -> Stepped
+fn retreat(
+    control: &mut [u32],
+    stack: &mut [u32],
+    heap: &mut [u32],
+    trail: &[u32],
+) -> Result<usize, Refusal>
     requires { Accepted (record { control = control.old; stack = stack.old; heap = heap.old; trail = trail.now }) }
     ensures { Retreats (record { control = control.old; stack = stack.old; heap = heap.old; trail = trail.now })
         result (record { control = control.new; stack = stack.new; heap = heap.new; trail = trail.now }) }
 {
     let newest = control[B];
     if newest == NONE {
-        return Stepped::Refused(Refusal::NoChoicePoint);
+        return Err(Refusal::NoChoicePoint);
     }
     let b = newest as usize;
     let count = FIXED + stack[b + N] as usize;
     if control.len() < count {
-        return Stepped::Refused(Refusal::ControlShort);
+        return Err(Refusal::ControlShort);
     }
     let since = stack[b + T] as usize;
     let top = control[T] as usize;
     undo(trail, heap, stack, since, top);
     copy(control, stack, b, count);
-    Stepped::Undone(top - since)
+    Ok(top - since)
 }
 
 // The step back from any image: its refusal, or the number of trail entries undone.
@@ -78,18 +76,19 @@ pub fn step_back(
     heap: &mut [u32],
     trail: &[u32],
     work: &mut [u32],
-) -> Stepped
+) -> Result<usize, Refusal>
     ensures { StepsBack (record { control = control.old; stack = stack.old; heap = heap.old; trail = trail.now })
         work.old result (record { control = control.new; stack = stack.new; heap = heap.new; trail = trail.now }) work.new }
 {
     let words = heap.len() + stack.len();
-    let checked = admit::admit(control, stack, heap, trail, work);
-    match checked {
-        Checked::Refused(refusal) => Stepped::Refused(refusal),
-        Checked::Passed => {
-            let answer = retreat(control, stack, heap, trail);
-            counts::clear(work, 0, words);
-            answer
-        }
-    }
+    let view = View {
+        control,
+        stack,
+        heap,
+        trail,
+    };
+    admit::admit(view, work)?;
+    let answer = retreat(control, stack, heap, trail);
+    counts::clear(work, 0, words);
+    answer
 }

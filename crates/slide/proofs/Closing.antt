@@ -9,6 +9,7 @@ use native.Mathlib.Omega.{arith}
 use native.Mathlib.Numerals.{add-one}
 use lib.ListN.{length, get_or, take, drop, set, replicate, length-set, length-take}
 use lib.Seq.{drop-set-lt, take-set-le, take-suc, take-suc-set}
+use Rattle.std.specs.Int.{from_bool}
 use Rattle.machine.specs.Moved.{cons_if, kept, close_up}
 use Rattle.machine.proofs.Below.{below-zero, below_in, below_out}
 use Rattle.machine.proofs.Parts.{rest_at, rest-later}
@@ -26,6 +27,11 @@ pub data Turned (Value : ℕ → Type 0) (b : Bool) (words : List ℕ) (to : ℕ
   stored : {v : ℕ} → b ≡ true → Value v → words' ≡ set words to v → to' ≡ to + 1 → Turned Value b words to words' to'
   skipped : b ≡ false → words' ≡ words → to' ≡ to → Turned Value b words to words' to'
   uncounted : (v : ℕ) → b ≡ false → words' ≡ set words to v → to' ≡ to → Turned Value b words to words' to'
+
+-- a word is written down, and counted where it is kept
+pub counted : {Value : ℕ → Type 0} {words : List ℕ} {to one : ℕ} (v : ℕ) (b : Bool) → Value v → one ≡ from_bool b → Turned Value b words to (set words to v) (to + one)
+counted {to = to} v true w e = stored refl w refl (ap (λ (n : ℕ). to + n) e)
+counted v false w e = uncounted v refl refl (omega arith)
 
 pub passed-turn : {Value : ℕ → Type 0} {b : Bool} {words words' words'' : List ℕ} {i to to' : ℕ} → Passed words words' i to → Turned Value b words' to words'' to' → Passed words words'' (i + 1) to'
 passed-turn {words = words} {words' = words'} {i = i} {to = to} p (stored {v} e w q r) = rw (q, r) (record {

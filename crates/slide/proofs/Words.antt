@@ -1,4 +1,4 @@
--- What a stack word becomes by its note, and a control word by its place: each test of `move_cell`, `move_t` and `move_control_word` is decided
+-- What a stack word becomes by its note, and a control word by its place: each test of `move_noted`, `move_t` and `move_control_word` is decided
 -- by the case at hand. Assumes nothing.
 use Prim.Native.Nat.{ℕ, ◌+◌, ◌≤◌, ◌<◌}
 use mathlib.Core.Path.{◌≡◌, refl}
@@ -6,33 +6,34 @@ use mathlib.Core.Logic.{◌≢◌}
 use mathlib.Core.Bool.{Bool}
 use mathlib.Core.List.{List}
 use native.Mathlib.Omega.{arith}
+use lib.ListN.{get_or}
 use borrow.Author.Tests.{ne_eqb, lt-ltb, le-ltb, le-leb, lt-leb}
 use Rattle.machine.specs.Layout.{T, H, N, place_of, fixed, field}
-use Rattle.machine.specs.Roles.{cell, own, code_of, note_at}
+use Rattle.machine.specs.Roles.{cell, own, code_of}
 use Rattle.machine.specs.Moved.{below, move_word}
-use Rattle.slide.specs.Slides.{move_cell, move_control_word, move_t}
+use Rattle.slide.specs.Slides.{move_noted, move_control_word, move_t}
 
-module _ (cells : ℕ → Bool) (work : List ℕ) (notes i w : ℕ) where
-  pub move-cell : note_at work notes i ≡ code_of cell → move_cell cells work notes i w ≡ move_word (below cells) w
-  unfolding move_cell
+module _ (cells : ℕ → Bool) (note w : ℕ) where
+  pub move-cell : note ≡ code_of cell → move_noted cells note w ≡ move_word (below cells) w
+  unfolding move_noted
   move-cell e = rw e
 
-  pub move-boundary : note_at work notes i ≡ code_of (own H) → move_cell cells work notes i w ≡ below cells w
-  unfolding move_cell
+  pub move-boundary : note ≡ code_of (own H) → move_noted cells note w ≡ below cells w
+  unfolding move_noted
   move-boundary e = rw e
 
-  pub move-other : note_at work notes i ≢ code_of cell → note_at work notes i ≢ code_of (own H) → move_cell cells work notes i w ≡ w
-  unfolding move_cell
-  move-other m n = rw (ne_eqb (note_at work notes i) (code_of cell) m, ne_eqb (note_at work notes i) (code_of (own H)) n)
+  pub move-other : note ≢ code_of cell → note ≢ code_of (own H) → move_noted cells note w ≡ w
+  unfolding move_noted
+  move-other m n = rw (ne_eqb note (code_of cell) m, ne_eqb note (code_of (own H)) n)
 
-module _ (entries : ℕ → Bool) (work : List ℕ) (notes i w : ℕ) where
-  pub move_t-field : note_at work notes i ≡ code_of (own T) → move_t entries work notes i w ≡ below entries w
+module _ (entries : ℕ → Bool) (notes : List ℕ) (i w : ℕ) where
+  pub move_t-field : get_or notes i 0 ≡ code_of (own T) → move_t entries notes i w ≡ below entries w
   unfolding move_t
   move_t-field e = rw e
 
-  pub move_t-other : note_at work notes i ≢ code_of (own T) → move_t entries work notes i w ≡ w
+  pub move_t-other : get_or notes i 0 ≢ code_of (own T) → move_t entries notes i w ≡ w
   unfolding move_t
-  move_t-other n = rw (ne_eqb (note_at work notes i) (code_of (own T)) n)
+  move_t-other n = rw (ne_eqb (get_or notes i 0) (code_of (own T)) n)
 
 module _ (cells : ℕ → Bool) (total kept : ℕ) (control : List ℕ) where
   pub control-T : (w : ℕ) → move_control_word cells total kept control (place_of T) w ≡ kept

@@ -1,6 +1,6 @@
 -- Words that close up in place, one after the other: the first i are passed, those of them that are kept stand below `to`, and those from
 -- i on are as they were. Assumes nothing.
-use Rattle.std.specs.Prelude.{ℕ, ◌+◌, ◌-◌, ◌≤◌, ◌<◌, ◌≡◌, Bool, List, map, length, get_or, take, drop}
+use Rattle.std.specs.Prelude.{ℕ, ◌-◌, ◌≤◌, ◌<◌, ◌≡◌, Bool, List, map, length, get_or, take, drop}
 use Rattle.cell.specs.Word.{stack_base}
 use Rattle.machine.specs.Moved.{below, kept, move_entry}
 use Rattle.counts.specs.Counts.{Counting}
@@ -21,26 +21,28 @@ pub record Closed (set : ℕ → Bool) (f : ℕ → ℕ) (words words' : List �
 abbrev pub EntryBelow : ℕ → ℕ → Type 0
 EntryBelow top entry = entry < stack_base → entry < top
 
--- the work words hold a count or a note for the entry
-pub record Named (work : List ℕ) (notes entry : ℕ) : Type 0 where
-  pub heap_cell : EntryBelow (length work) entry
-  pub stack_word : stack_base ≤ entry → notes + (entry - stack_base) < length work
+-- the entry has a count or a note
+pub record Named (counts notes : List ℕ) (entry : ℕ) : Type 0 where
+  pub heap_cell : EntryBelow (length counts) entry
+  pub stack_word : stack_base ≤ entry → entry - stack_base < length notes
 
 -- whether the entry is kept
-pub record EntryKept (work : List ℕ) (notes entry : ℕ) (r : Bool) : Type 0 where
-  pub exact : (cells : ℕ → Bool) (top : ℕ) → Counting cells top work → EntryBelow top entry → r ≡ keeps_entry cells work notes entry
+abbrev pub EntryKept : List ℕ → List ℕ → ℕ → Bool → Type 0
+EntryKept counts notes entry r = (cells : ℕ → Bool) → Counting cells (length counts) counts → r ≡ keeps_entry cells notes entry
 
 -- what the entry becomes
-pub record EntryMoved (work : List ℕ) (entry r : ℕ) : Type 0 where
-  pub exact : (cells : ℕ → Bool) (top : ℕ) → Counting cells top work → EntryBelow top entry → r ≡ move_entry (below cells) entry
+abbrev pub EntryMoved : List ℕ → ℕ → ℕ → Type 0
+EntryMoved counts entry r = (cells : ℕ → Bool) → Counting cells (length counts) counts → r ≡ move_entry (below cells) entry
 
-pub record EntriesClose (trail work : List ℕ) (notes a z to : ℕ) : Type 0 where
+pub record EntriesClose (trail counts notes : List ℕ) (a z to : ℕ) : Type 0 where
   pub low : to ≤ a
   pub order : a ≤ z
   pub inside : z ≤ length trail
-  pub named : (i : ℕ) → a ≤ i → i < z → Named work notes (get_or trail i 0)
+  pub named : (i : ℕ) → a ≤ i → i < z → Named counts notes (get_or trail i 0)
 
 -- the entries of any trail that were closed up to a are closed up to z
-pub record EntriesClosed (trail work : List ℕ) (notes a z to : ℕ) (trail' : List ℕ) (r : ℕ) : Type 0 where
+pub record EntriesClosed (trail counts notes : List ℕ) (a z to : ℕ) (trail' : List ℕ) (r : ℕ) : Type 0 where
   pub passed : Passed trail trail' z r
-  pub closed : (cells : ℕ → Bool) (top : ℕ) (words : List ℕ) → Counting cells top work → ((i : ℕ) → a ≤ i → i < z → EntryBelow top (get_or words i 0)) → Passed words trail a to → Closed (entries_of cells work notes words) (move_entry (below cells)) words trail a to → Closed (entries_of cells work notes words) (move_entry (below cells)) words trail' z r
+  pub closed : (cells : ℕ → Bool) (words : List ℕ) → Counting cells (length counts) counts → Passed words trail a to →
+      Closed (entries_of cells notes words) (move_entry (below cells)) words trail a to →
+      Closed (entries_of cells notes words) (move_entry (below cells)) words trail' z r

@@ -1,11 +1,11 @@
 // Slides each area: the heap closes up over dropped cells, the trail over dropped entries, and every reference and boundary follows.
 #![tactic(auto)]
 
-ghost use Rattle.std.specs.Prelude.{◌≡◌, Bool, ℕ, ◌+◌, ◌-◌, ◌<◌, ◌≤◌, length, get_or};
+ghost use Rattle.std.specs.Prelude.{◌≡◌, Bool, ℕ, length};
 ghost use Rattle.machine.specs.Moved.{below, move_word, each, close_up};
-ghost use Rattle.counts.specs.Counts.{Counting, Low};
+ghost use Rattle.counts.specs.Counts.{Counting};
 ghost use Rattle.slide.specs.Closed.{EntryBelow, Named, EntryKept, EntryMoved, EntriesClose, EntriesClosed};
-ghost use Rattle.slide.specs.Slides.{move_cell, move_control_word, HeapSlides, StackSlides, WordSlides, ControlSlides, TrailSlides, TrailSlid};
+ghost use Rattle.slide.specs.Slides.{move_noted, move_cell, move_control_word, HeapSlides, StackSlides, WordSlides, ControlSlides, TrailSlides, TrailSlid};
 
 use machine::{CELL, FIXED, H, N, OWN, T};
 
@@ -14,69 +14,64 @@ const T_FIELD: u32 = OWN + T as u32;
 
 const H_FIELD: u32 = OWN + H as u32;
 
-// The kept cells move down in order, and zeros follow them up to top.
-pub fn slide_heap(heap: &mut [u32], work: &[u32], top: usize)
-    requires { HeapSlides heap.old work.now top }
-    ensures { (cells : ℕ → Bool) → Counting cells top work.now → heap.new ≡ close_up cells (move_word (below cells)) top heap.old }
+// The kept cells move down in order, and zeros follow them up to the end of the counts.
+pub fn slide_heap(heap: &mut [u32], counts: &[u32])
+    requires { HeapSlides heap.old counts.now }
+    ensures { (cells : ℕ → Bool) → Counting cells (length counts.now) counts.now → heap.new ≡ close_up cells (move_word (below cells)) (length counts.now) heap.old }
 {
+    let top = counts.len();
     let mut to = 0;
-    let mut x = 0;
-    while x < top {
-        if work[x] % 2 == 1 {
-            heap[to] = counts::moved_word(work, top, heap[x]);
+    for x in 0..top {
+        if counts[x] % 2 == 1 {
+            heap[to] = counts::moved_word(counts, top, heap[x]);
             to += 1;
         }
-        x += 1;
     }
     counts::clear(heap, to, top);
 }
 
 // Whether a trail entry is kept.
-fn keeps(work: &[u32], notes: usize, entry: u32) -> bool
-    requires { Named work.now notes entry }
-    ensures { EntryKept work.now notes entry result }
+fn keeps(counts: &[u32], notes: &[u32], entry: u32) -> bool
+    requires { Named counts.now notes.now entry }
+    ensures { EntryKept counts.now notes.now entry result }
 {
     if entry < cell::STACK_BASE {
-        let x = entry as usize;
-        return work[x] % 2 == 1;
+        counts[entry as usize] % 2 == 1
+    } else {
+        notes[cell::stack_index(entry) as usize] == CELL
     }
-    let i = (entry - cell::STACK_BASE) as usize;
-    work[notes + i] == CELL
 }
 
 // A kept entry as it stands after the collection.
-fn moved_entry(work: &[u32], entry: u32) -> u32
-    requires { EntryBelow (length work.now) entry }
-    ensures { EntryMoved work.now entry result }
+fn moved_entry(counts: &[u32], entry: u32) -> u32
+    requires { EntryBelow (length counts.now) entry }
+    ensures { EntryMoved counts.now entry result }
 {
     if entry < cell::STACK_BASE {
-        let x = entry as usize;
-        return work[x] / 2;
+        counts[entry as usize] / 2
+    } else {
+        entry
     }
-    entry
 }
 
 // Closes up the entries from a up to z, the kept ones going to `to` and after; answers the place after them.
 fn close_entries(
     trail: &mut [u32],
-    work: &[u32],
-    notes: usize,
+    counts: &[u32],
+    notes: &[u32],
     a: usize,
     z: usize,
     to: usize,
 ) -> usize
-    requires { EntriesClose trail.old work.now notes a z to }
-    ensures { EntriesClosed trail.old work.now notes a z to trail.new result }
+    requires { EntriesClose trail.old counts.now notes.now a z to }
+    ensures { EntriesClosed trail.old counts.now notes.now a z to trail.new result }
 {
     let mut k = to;
-    let mut i = a;
-    while i < z {
+    for i in a..z {
         let entry = trail[i];
         // Every entry is written down and only a kept one stays, so that the processor has no branch to guess.
-        trail[k] = moved_entry(work, entry);
-        let one = if keeps(work, notes, entry) { 1 } else { 0 };
-        k += one;
-        i += 1;
+        trail[k] = moved_entry(counts, entry);
+        k += usize::from(keeps(counts, notes, entry));
     }
     k
 }
@@ -86,69 +81,61 @@ fn close_entries(
 pub fn slide_trail(
     trail: &mut [u32],
     stack: &mut [u32],
-    work: &[u32],
-    notes: usize,
-    top: usize,
+    counts: &[u32],
+    notes: &[u32],
     t: usize,
 ) -> usize
-    requires { TrailSlides trail.old stack.old work.now notes top t }
-    ensures { (cells : ℕ → Bool) → Counting cells top work.now → TrailSlid cells trail.old stack.old work.now notes t trail.new stack.new result }
+    requires { TrailSlides trail.old stack.old counts.now notes.now t }
+    ensures { (cells : ℕ → Bool) → Counting cells (length counts.now) counts.now → TrailSlid cells trail.old stack.old notes.now t trail.new stack.new result }
 {
     let mut kept = 0;
     let mut from = 0;
-    let mut i = 0;
-    while i < stack.len() {
-        if work[notes + i] == T_FIELD {
-            let z = stack[i] as usize;
-            kept = close_entries(trail, work, notes, from, z, kept);
-            stack[i] = kept as u32;
+    for (i, word) in stack.iter_mut().enumerate() {
+        if notes[i] == T_FIELD {
+            let z = *word as usize;
+            kept = close_entries(trail, counts, notes, from, z, kept);
+            *word = kept as u32;
             from = z;
         }
-        i += 1;
     }
-    kept = close_entries(trail, work, notes, from, t, kept);
+    kept = close_entries(trail, counts, notes, from, t, kept);
     counts::clear(trail, kept, t);
     kept
 }
 
-// The stack word at i by its note: a cell is moved, an H field becomes d of it.
-fn slid_word(work: &[u32], notes: usize, top: usize, total: u32, i: usize, word: u32) -> u32
-    requires { WordSlides work.now notes top i word }
-    ensures { (cells : ℕ → Bool) → Counting cells top work.now → total ≡ below cells top → result ≡ move_cell cells work.now notes i word }
+// A stack word by its note: a cell is moved, an H field becomes d of it.
+#[tactic(auto, unfolding(crate::specs::Slides::move_noted))]
+fn slid_word(counts: &[u32], total: u32, note: u32, word: u32) -> u32
+    requires { WordSlides counts.now note word }
+    ensures { (cells : ℕ → Bool) → Counting cells (length counts.now) counts.now → total ≡ below cells (length counts.now) → result ≡ move_noted cells note word }
 {
-    let note = work[notes + i];
-    if note == CELL {
-        return counts::moved_word(work, top, word);
+    match note {
+        CELL => counts::moved_word(counts, counts.len(), word),
+        H_FIELD => counts::boundary(counts, counts.len(), total, word),
+        _ => word,
     }
-    if note == H_FIELD {
-        return counts::boundary(work, top, total, word);
-    }
-    word
 }
 
 // The stack's cells are moved, and its H fields become d of them.
-pub fn slide_stack(stack: &mut [u32], work: &[u32], notes: usize, top: usize, total: u32)
-    requires { StackSlides stack.old work.now notes top }
-    ensures { (cells : ℕ → Bool) → Counting cells top work.now → total ≡ below cells top → stack.new ≡ each (move_cell cells work.now notes) 0 stack.old }
+pub fn slide_stack(stack: &mut [u32], counts: &[u32], notes: &[u32], total: u32)
+    requires { StackSlides stack.old counts.now notes.now }
+    ensures { (cells : ℕ → Bool) → Counting cells (length counts.now) counts.now → total ≡ below cells (length counts.now) → stack.new ≡ each (move_cell cells notes.now) 0 stack.old }
 {
-    let mut i = 0;
-    while i < stack.len() {
-        stack[i] = slid_word(work, notes, top, total, i, stack[i]);
-        i += 1;
+    for (i, word) in stack.iter_mut().enumerate() {
+        *word = slid_word(counts, total, notes[i], *word);
     }
 }
 
 // The control area's saved arguments are moved; H becomes the number of kept cells, and T that of kept entries.
-pub fn slide_control(control: &mut [u32], work: &[u32], top: usize, total: u32, kept: u32)
-    requires { ControlSlides control.old work.now top }
-    ensures { (cells : ℕ → Bool) → Counting cells top work.now → control.new ≡ each (move_control_word cells total kept control.old) 0 control.old }
+#[tactic(auto, unfolding(machine::specs::Layout::field))]
+pub fn slide_control(control: &mut [u32], counts: &[u32], total: u32, kept: u32)
+    requires { ControlSlides control.old counts.now }
+    ensures { (cells : ℕ → Bool) → Counting cells (length counts.now) counts.now → control.new ≡ each (move_control_word cells total kept control.old) 0 control.old }
 {
     let end = FIXED + control[N] as usize;
+    for word in &mut control[FIXED..end] {
+        *word = counts::moved_word(counts, counts.len(), *word);
+    }
     control[T] = kept;
     control[H] = total;
-    let mut i = FIXED;
-    while i < end {
-        control[i] = counts::moved_word(work, top, control[i]);
-        i += 1;
-    }
 }

@@ -1,5 +1,5 @@
 -- Chains of frames: what the first frame says of the rest, how long a chain can be, and a walk down it that counts. Assumes nothing.
-use Prim.Native.Nat.{ℕ, suc, ◌+◌, ◌-◌, ◌≤◌, ◌<◌}
+use Prim.Native.Nat.{ℕ, suc, ◌+◌, ◌≤◌, ◌<◌}
 use mathlib.Core.Path.{◌≡◌, refl, sym, ap, ◌∙◌, subst}
 use mathlib.Core.Logic.{◌≢◌}
 use mathlib.Core.List.{List}
@@ -60,15 +60,6 @@ module _ {stack : List ℕ} where
   chain-none (nothing q) e = refl
   chain-none (frame s inside falls c) e = absurd (s e)
 
-  pub chain_next : {e n : ℕ} → Chain stack e n → e ≢ none → (1 ≤ n) × Chain stack (link_in stack e) (n - 1)
-  chain_next {e} {n} c s =
-      let f = chain_first c s in
-      let z : f.rest ≡ n - 1 = omega (arith, f.count) in
-      (omega (arith, f.count), subst (λ (k : ℕ). Chain stack (link_in stack e) k) z f.chain)
-
-  pub chain-less : {e n : ℕ} → Chain stack e n → e ≢ none → left (link_in stack e) < left e
-  chain-less {e} c s = left_less e (link_in stack e) s (chain_first c s).falls
-
   -- there is one chain from e
   pub one-chain : {e n m : ℕ} → Chain stack e n → Chain stack e m → n ≡ m
   one-chain (nothing q) d = sym (chain-none d q)
@@ -85,18 +76,12 @@ module _ {stack : List ℕ} where
   pub chain-word : {e n : ℕ} → e ≤ none → Chain stack e n → n ≤ none
   chain-word {e} {n} l c = short-word e n l (chain-none c) (chain-short c)
 
-  pub passed_none : {e : ℕ} → Chained stack e → Passed stack e 0 e
-  passed_none {e} a = record { ahead = a; back = λ m c. let z : m ≡ 0 + m = omega arith in subst (λ (k : ℕ). Chain stack e k) z c }
-
   module _ {from n e : ℕ} (p : Passed stack from n e) (s : e ≢ none) where
     abbrev here : First stack e p.ahead.frames
     here = chain_first p.ahead.chain s
 
     pub passed-inside : e + link_place < length stack
     passed-inside = here.inside
-
-    pub passed-less : left (link_in stack e) < left e
-    passed-less = chain-less p.ahead.chain s
 
     pub passed-more : Passed stack from (n + 1) (link_in stack e)
     passed-more = record {
@@ -106,6 +91,3 @@ module _ {stack : List ℕ} where
 
     pub passed-word : from ≤ none → n + 1 ≤ none
     passed-word l = omega (arith, chain-word l (p.back _ p.ahead.chain), here.count)
-
-  pub passed-end : {from n e : ℕ} → Passed stack from n e → e ≡ none → Chain stack from n
-  passed-end {from} {n} p q = let z : n + 0 ≡ n = omega arith in subst (λ (k : ℕ). Chain stack from k) z (p.back 0 (nothing q))

@@ -1,5 +1,6 @@
 -- The promise of `count_file` fixes everything: its answer, the areas and the work words. The sets of a collection are fixed below H and
 -- below T, and the figures read them nowhere else. Assumes nothing.
+use Rattle.std.specs.Prelude.{Ok, Err}
 use Prim.Native.Nat.{ℕ, ◌-◌, ◌<◌}
 use mathlib.Core.Path.{◌≡◌, refl, sym, ap, ◌∙◌}
 use mathlib.Core.Bool.{Bool, true, false, ◌&&◌, not}
@@ -7,22 +8,21 @@ use mathlib.Core.List.{List}
 use native.Mathlib.Omega.{arith}
 use lib.ListN.{length, get_or}
 use lib.Dec.{eqb}
+use Rattle.machine.specs.declared.Refusal.{Refusal}
 use Rattle.machine.specs.Layout.{Image, T, H, reg}
 use Rattle.machine.specs.Moved.{below, CollectedTo}
 use Rattle.machine.proofs.Below.{below-same}
-use Rattle.machine.proofs.Injective.{verdict_of-injective}
+use Rattle.machine.proofs.Injective.{verdict_of-injective, refusal-refuses}
 use Rattle.machine.proofs.Unique.{one-cells, one-entries, one-image}
 use Rattle.machine.proofs.Verdicts.{verdict-accepted}
 use Rattle.freeze.specs.declared.FileRefusal.{FileRefusal}
 use Rattle.freeze.specs.declared.FileRefusal.TheVariants.{Sizes, Registers, Cut, Kind, Room, After, Differ, Output}
 use Rattle.freeze.specs.Verdicts as files
-use Rattle.freeze.proofs.VerdictLaws.{refusal-refuses}
+use Rattle.freeze.proofs.VerdictLaws as file-laws
 use Rattle.listing.specs.Lists.{thawed, taken, joined}
-use Rattle.listing.proofs.Listings.{accepted-refused, refusal-numbered}
-use Rattle.tally.specs.declared.Counted.{Counted}
-use Rattle.tally.specs.declared.Counted.TheVariants.{Figures, Refused, BadFile}
+use Rattle.tally.specs.declared.Uncounted.TheVariants as uncounted
 use Rattle.tally.specs.Figures.{Tag, Figure, kept, dropped, entries_kept, entries_dropped, choice_points, has_tag, tagged, tally_by, count_of, deepest_of, tally_of}
-use Rattle.tally.specs.Counts.{CountsFile, bad_file, refused_image, counted}
+use Rattle.tally.specs.Counts.{Counted, CountsFile, bad_file, refused_image, counted}
 
 -- ---- a number and an offset name one refusal of a file
 
@@ -87,16 +87,16 @@ module _ {X Y Z : Image} (c : CollectedTo X Y) (d : CollectedTo X Z) where
 module _ {file : List ℕ} {lent : Image} {work : List ℕ} where
   pub one-count : {r r' : Counted} {left left' : Image} {work₁ work₂ : List ℕ} → CountsFile file lent work r left work₁ → CountsFile file lent work r' left' work₂
       → (r ≡ r') × (left ≡ left') × (work₁ ≡ work₂)
-  one-count (bad_file q e) (bad_file q' e') = (ap BadFile (one-file-refusal q q' (sym e ∙ e')), refl, refl)
-  one-count (bad_file q e) (refused_image q' e' v') = absurd (refusal-refuses q (sym e ∙ e'))
-  one-count (bad_file q e) (counted Y' e' v' to') = absurd (refusal-refuses q (sym e ∙ e'))
-  one-count (refused_image q e v) (bad_file q' e') = absurd (refusal-refuses q' (sym e' ∙ e))
-  one-count (refused_image q e v) (refused_image q' e' v') = (ap Refused (verdict_of-injective q q' (sym v ∙ v')), refl, refl)
-  one-count (refused_image q e v) (counted Y' e' v' to') = absurd (accepted-refused (sym v' ∙ v ∙ (refusal-numbered q).2))
-  one-count (counted Y e v to) (bad_file q' e') = absurd (refusal-refuses q' (sym e' ∙ e))
-  one-count (counted Y e v to) (refused_image q' e' v') = absurd (accepted-refused (sym v ∙ v' ∙ (refusal-numbered q').2))
+  one-count (bad_file q e) (bad_file q' e') = (ap (λ (q : FileRefusal). Err (uncounted.File q)) (one-file-refusal q q' (sym e ∙ e')), refl, refl)
+  one-count (bad_file q e) (refused_image q' e' v') = absurd (file-laws.refusal-refuses q (sym e ∙ e'))
+  one-count (bad_file q e) (counted Y' e' v' to') = absurd (file-laws.refusal-refuses q (sym e ∙ e'))
+  one-count (refused_image q e v) (bad_file q' e') = absurd (file-laws.refusal-refuses q' (sym e' ∙ e))
+  one-count (refused_image q e v) (refused_image q' e' v') = (ap (λ (q : Refusal). Err (uncounted.Image q)) (verdict_of-injective q q' (sym v ∙ v')), refl, refl)
+  one-count (refused_image q e v) (counted Y' e' v' to') = absurd (refusal-refuses q (sym v ∙ v'))
+  one-count (counted Y e v to) (bad_file q' e') = absurd (file-laws.refusal-refuses q' (sym e' ∙ e))
+  one-count (counted Y e v to) (refused_image q' e' v') = absurd (refusal-refuses q' (sym v' ∙ v))
   one-count (counted Y e v to) (counted Y' e' v' to') = (
-    ap Figures (one-tally to to'),
+    ap Ok (one-tally to to'),
     ap (joined (thawed file lent)) (one-image to to' (verdict-accepted (length work) (taken file lent) v).0),
     refl,
   )

@@ -81,16 +81,16 @@ more-more tally m d n e =
     λ i. with-last tally (x i) (y i)
 
 -- so many choice points are counted between two
-pub record Passed (stack : List ℕ) (notes b : ℕ) (tally : Tally) (work : List ℕ) (next : ℕ) (counted : Tally) (work' : List ℕ) : Type 0 where
+pub record Passed (stack : List ℕ) (b : ℕ) (tally : Tally) (notes : List ℕ) (next : ℕ) (counted : Tally) (notes' : List ℕ) : Type 0 where
   pub points : ℕ
   pub frames : ℕ
   pub ahead : Pointed stack next
   pub back : (m d : ℕ) → Points stack next m d → Points stack b (points + m) (max frames d)
   pub so_far : counted ≡ with_chains tally points frames
-  pub noted : Notes stack notes work work'
+  pub noted : Notes stack notes notes'
 
-module _ {stack : List ℕ} {notes b : ℕ} {tally : Tally} {work : List ℕ} where
-  pub passed_none : Pointed stack b → Memo stack notes work → Passed stack notes b tally work b tally work
+module _ {stack : List ℕ} {b : ℕ} {tally : Tally} {notes : List ℕ} where
+  pub passed_none : Pointed stack b → Memo stack notes → Passed stack b tally notes b tally notes
   passed_none a m = record {
     points = 0;
     frames = 0;
@@ -103,7 +103,7 @@ module _ {stack : List ℕ} {notes b : ℕ} {tally : Tally} {work : List ℕ} wh
     noted = notes-none m;
   }
 
-  module _ {next : ℕ} {counted : Tally} {work' : List ℕ} (p : Passed stack notes b tally work next counted work') where
+  module _ {next : ℕ} {counted : Tally} {notes' : List ℕ} (p : Passed stack b tally notes next counted notes') where
     module _ (s : next ≢ none) where
       abbrev pub here : First stack next p.ahead.points p.ahead.frames
       here = points-first p.ahead.chains s
@@ -121,8 +121,8 @@ module _ {stack : List ℕ} {notes b : ℕ} {tally : Tally} {work : List ℕ} wh
             here.count,
           )
 
-      pub passed-more : {n : ℕ} {counted' : Tally} {work'' : List ℕ} → Chains stack notes (field stack next E) work' n work'' → counted' ≡ with_point counted n
-          → Passed stack notes b tally work (field stack next B) counted' work''
+      pub passed-more : {n : ℕ} {counted' : Tally} {notes'' : List ℕ} → Chains stack (field stack next E) notes' n notes'' → counted' ≡ with_point counted n
+          → Passed stack b tally notes (field stack next B) counted' notes''
       passed-more {n} c e = record {
         points = p.points + 1;
         frames = max p.frames n;
@@ -135,7 +135,7 @@ module _ {stack : List ℕ} {notes b : ℕ} {tally : Tally} {work : List ℕ} wh
         noted = notes-join p.noted c.noted;
       }
 
-    pub passed-end : next ≡ none → CountsPoints stack notes b tally work counted work'
+    pub passed-end : next ≡ none → CountsPoints stack b tally notes counted notes'
     passed-end q = record {
       points = p.points;
       frames = p.frames;
@@ -148,9 +148,9 @@ module _ {stack : List ℕ} {notes b : ℕ} {tally : Tally} {work : List ℕ} wh
     }
 
 -- the control area's own chain first
-pub chains-counted : {control stack : List ℕ} {notes : ℕ} {tally counted r : Tally} {work work' work'' : List ℕ} {n : ℕ}
-    → Chains stack notes (field control 0 E) work n work' → counted ≡ with_chain tally n → CountsPoints stack notes (field control 0 B) counted work' r work''
-    → CountsChains control stack notes tally work r work''
+pub chains-counted : {control stack : List ℕ} {tally counted r : Tally} {notes notes' notes'' : List ℕ} {n : ℕ}
+    → Chains stack (field control 0 E) notes n notes' → counted ≡ with_chain tally n → CountsPoints stack (field control 0 B) counted notes' r notes''
+    → CountsChains control stack tally notes r notes''
 chains-counted {n = n} c e p = record {
   own = n;
   chain = c.chain;

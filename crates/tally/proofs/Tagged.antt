@@ -1,14 +1,15 @@
 -- Cells counted by tag: one cell more, and the two loops over a heap that a tally takes cell by cell. Assumes nothing.
 use Prim.Native.Nat.{ℕ, ◌+◌, ◌-◌, ◌≤◌, ◌<◌}
 use mathlib.Core.Path.{◌≡◌, refl, sym, ap, ◌∙◌}
-use mathlib.Core.Bool.{Bool, true, false, ◌&&◌}
+use mathlib.Core.Bool.{Bool, true, ◌&&◌}
 use mathlib.Core.List.{List}
 use native.Mathlib.Omega.{arith}
 use native.Mathlib.Numerals.{add-one}
-use lib.ListN.{get_or}
-use Rattle.cell.specs.Word.{pick}
+use lib.ListN.{length, take, get_or}
+use lib.Seq.{length-take-le, get_or-take}
 use Rattle.machine.specs.Moved.{below}
 use Rattle.machine.proofs.Below.{below-le, below-mono}
+use Rattle.tally.specs.declared.Tags.{Tags}
 use Rattle.tally.specs.declared.Tally.{Tally}
 use Rattle.tally.specs.Figures.{Tag, var, structure, list, constant, of_tag, tags_by, has_tag, tagged}
 use Rattle.tally.specs.Totals.{empty, hit, limit, with_read, with_kept, Room}
@@ -21,17 +22,24 @@ of-by count structure = refl
 of-by count list = refl
 of-by count constant = refl
 
--- what one word adds to the count of a tag
-pick-most : (b : Bool) → pick b 1 0 ≤ 1
-pick-most true = omega arith
-pick-most false = omega arith
-
-pub hit-most : (word : ℕ) (tag : Tag) → hit word tag ≤ 1
-hit-most word tag = pick-most (has_tag tag word)
+-- counts that are known under each tag
+pub tags-by : (tags : Tags) (count : Tag → ℕ) → ((tag : Tag) → of_tag tag tags ≡ count tag) → tags ≡ tags_by count
+tags-by tags count e = λ i. record { var = e var i; structure = e structure i; list = e list i; constant = e constant i }
 
 pub tagged-most : (heap : List ℕ) (set : ℕ → Bool) (tag : Tag) (count : ℕ) → tagged heap set tag count ≤ count
 unfolding tagged
 tagged-most heap set tag count = below-le (λ x. set x && has_tag tag (get_or heap x 0)) count
+
+-- the words that a loop over the first ones of a list takes
+module _ (words : List ℕ) (count : ℕ) (inside : count ≤ length words) (x : ℕ) where
+  pub front-below : x < length (take count words) → x < count
+  front-below l = omega (arith, length-take-le count words inside)
+
+  pub front-word : x < length (take count words) → get_or (take count words) x 0 ≡ get_or words x 0
+  front-word l = get_or-take count words x 0 (front-below l)
+
+  pub front-end : x ≤ length (take count words) → length (take count words) ≤ x → x ≡ count
+  front-end l m = omega (arith, length-take-le count words inside)
 
 module _ (heap : List ℕ) where
   pub in-none : (tag : Tag) → in_heap heap 0 tag ≡ 0

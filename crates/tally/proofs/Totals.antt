@@ -1,5 +1,6 @@
 -- The totals of a month: each counted figure is the sum over the accepted files, the deepest chain the largest, and the four tags of an
 -- image add up to its H. By recursion over the files. Assumes nothing.
+use Rattle.std.specs.Prelude.{Ok, Err}
 use Prim.Native.Nat.{ℕ, ◌+◌, max}
 use mathlib.Core.Path.{◌≡◌, refl, ◌∙◌}
 use mathlib.Core.Bool.{true, not}
@@ -9,10 +10,9 @@ use Rattle.machine.specs.Layout.{H, reg}
 use Rattle.machine.specs.Answers.{counted}
 use Rattle.machine.proofs.Below.{below_all}
 use Rattle.tally.specs.declared.Tally.{Tally}
-use Rattle.tally.specs.declared.Counted.{Counted}
-use Rattle.tally.specs.declared.Counted.TheVariants.{Figures, Refused, BadFile}
 use Rattle.tally.specs.Figures.{Tag, var, structure, list, constant, Figure, kept, dropped, entries_kept, entries_dropped, choice_points, figure, tally_by, tagged, count_of, tally_of}
 use Rattle.tally.specs.Totals.{plus, after, empty, total_from, adds, deepest_of_file, sum, largest, TotalIsSum, DeepestIsLargest, TagsAddUp}
+use Rattle.tally.specs.Counts.{Counted}
 use Rattle.tally.specs.Parts.{in_heap}
 use Rattle.tally.proofs.Tagged.{of-by}
 use Rattle.tally.proofs.Keeping.{tagged-split, tags-together}
@@ -29,9 +29,8 @@ pub figure-plus : (f : Figure) (a b : Tally) → figure f (plus a b) ≡ figure 
 figure-plus f a b = figure-by (λ g. figure g a + figure g b) (max a.deepest b.deepest) f
 
 figure-after : (f : Figure) (so_far : Tally) (file : Counted) → figure f (after so_far file) ≡ figure f so_far + adds f file
-figure-after f so_far (Figures tally) = figure-plus f so_far tally
-figure-after f so_far (Refused refusal) = omega arith
-figure-after f so_far (BadFile refusal) = omega arith
+figure-after f so_far (Ok tally) = figure-plus f so_far tally
+figure-after f so_far (Err why) = omega arith
 
 sum-from : (f : Figure) (so_far : Tally) (files : List Counted) → figure f (total_from so_far files) ≡ figure f so_far + sum (adds f) files
 unfolding total_from sum
@@ -42,9 +41,8 @@ pub total-is-sum : TotalIsSum
 total-is-sum f files = omega (arith, sum-from f empty files, figure-by (λ g. 0) 0 f)
 
 deepest-after : (so_far : Tally) (file : Counted) → (after so_far file).deepest ≡ max so_far.deepest (deepest_of_file file)
-deepest-after so_far (Figures tally) = refl
-deepest-after so_far (Refused refusal) = omega arith
-deepest-after so_far (BadFile refusal) = omega arith
+deepest-after so_far (Ok tally) = refl
+deepest-after so_far (Err why) = omega arith
 
 deepest-from : (so_far : Tally) (files : List Counted) → (total_from so_far files).deepest ≡ max so_far.deepest (largest deepest_of_file files)
 unfolding total_from largest

@@ -1,5 +1,6 @@
 -- No sum wraps: the figures of an image are at most its sizes, a file's image has no more than the lent areas, and so many files of the
 -- program's sizes stay far below 2 ^ 64. Assumes nothing.
+use Rattle.std.specs.Prelude.{Ok, Err}
 use Prim.Native.Nat.{ℕ, suc, ◌+◌, ◌≤◌, ◌<◌}
 use mathlib.Core.Path.{◌≡◌, refl, sym}
 use mathlib.Core.Bool.{Bool, not}
@@ -20,11 +21,9 @@ use Rattle.freeze.proofs.WordLaws.{length-words}
 use Rattle.freeze.proofs.ThawLaws.{within-each, thaws-accepted, thaws-filled}
 use Rattle.listing.specs.Lists.{thawed, taken}
 use Rattle.tally.specs.declared.Tally.{Tally}
-use Rattle.tally.specs.declared.Counted.{Counted}
-use Rattle.tally.specs.declared.Counted.TheVariants.{Figures, Refused, BadFile}
 use Rattle.tally.specs.Figures.{Figure, kept, dropped, entries_kept, entries_dropped, choice_points, points_in, deepest_in, deepest_of, count_of, tally_of}
 use Rattle.tally.specs.Totals.{empty, plus, after, total_from, total, Fits, files_most, heap_cells, Lent, FromFile, Within, TotalFits}
-use Rattle.tally.specs.Counts.{CountsFile, counted}
+use Rattle.tally.specs.Counts.{Counted, CountsFile, counted}
 use Rattle.tally.proofs.Tagged.{tagged-most}
 use Rattle.tally.proofs.Chains.{chain-inside}
 use Rattle.tally.proofs.Points.{points-inside}
@@ -79,7 +78,7 @@ taken-sized file lent ok =
 pub within_none : Within 0 empty
 within_none = record { counted = λ f. omega (arith, figure-by (λ g. 0) 0 f); deepest = omega arith }
 
-pub file-within : {file : List ℕ} {lent : Image} {work : List ℕ} {tally : Tally} {left : Image} {work' : List ℕ} → CountsFile file lent work (Figures tally) left work' → Lent lent → Within 1 tally
+pub file-within : {file : List ℕ} {lent : Image} {work : List ℕ} {tally : Tally} {left : Image} {work' : List ℕ} → CountsFile file lent work (Ok tally) left work' → Lent lent → Within 1 tally
 unfolding tally_of
 file-within {file} {lent} {work} (counted Y ok v to) l =
     let X = taken file lent in
@@ -109,9 +108,8 @@ pub within_more : (k n : ℕ) {a : Tally} → k ≤ n → Within k a → Within 
 within_more k n l a = record { counted = λ f. omega (arith, a.counted f); deepest = a.deepest }
 
 within-after : (k : ℕ) {so_far : Tally} (file : Counted) → FromFile file → Within k so_far → Within (k + 1) (after so_far file)
-within-after k (Figures tally) from w = within-next k w (file-within from.counts from.sizes)
-within-after k (Refused refusal) from w = within_more k (k + 1) (omega arith) w
-within-after k (BadFile refusal) from w = within_more k (k + 1) (omega arith) w
+within-after k (Ok tally) from w = within-next k w (file-within from.counts from.sizes)
+within-after k (Err why) from w = within_more k (k + 1) (omega arith) w
 
 within-from : (k : ℕ) (so_far : Tally) (files : List Counted) → ((file : Counted) → In file files → FromFile file) → Within k so_far → Within (k + length files) (total_from so_far files)
 unfolding total_from

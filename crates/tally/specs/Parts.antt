@@ -1,5 +1,8 @@
 -- What the inner functions of the tally promise one another. No public promise cites this page. Assumes nothing.
-use Rattle.std.specs.Prelude.{ℕ, suc, ◌+◌, ◌-◌, max, ◌≤◌, ◌<◌, ◌≡◌, ◌≢◌, true, List, length, get_or}
+use Rattle.std.specs.Prelude.{ℕ, suc, ◌+◌, ◌-◌, max, ◌≤◌, ◌<◌, ◌≡◌, ◌≢◌, true, Ok, Err, List, length, get_or}
+use Rattle.std.specs.Coded.{Π_prop, le_prop}
+use mathlib.Core.HLevel.{⊥_prop}
+use native.Mathlib.Nat.{ℕ_set}
 use Rattle.machine.specs.declared.Counts.{Counts}
 use Rattle.machine.specs.declared.Refusal.{Refusal}
 use Rattle.machine.specs.Layout.{Image, E, B, T, H, fixed, none, field, link_place, reg}
@@ -10,10 +13,10 @@ use Rattle.machine.proofs.Accepted.{Accepted}
 use Rattle.chains.specs.Noting.{Kept}
 use Rattle.tally.specs.declared.Tags.{Tags}
 use Rattle.tally.specs.declared.Tally.{Tally}
-use Rattle.tally.specs.declared.Counted.{Counted}
-use Rattle.tally.specs.declared.Counted.TheVariants.{Figures, Refused}
+use Rattle.tally.specs.declared.Uncounted.TheVariants as uncounted
 use Rattle.tally.specs.Figures.{Tag, of_tag, tags_by, tagged, tally_of}
 use Rattle.tally.specs.Totals.{empty, limit}
+use Rattle.tally.specs.Counts.{Counted}
 
 abbrev pub RoomFor : Tags → Tags → Type 0
 RoomFor a b = (tag : Tag) → of_tag tag a + of_tag tag b < limit
@@ -87,6 +90,11 @@ pub data Chain (stack : List ℕ) : ℕ → ℕ → Type 0 where
   nothing : {e : ℕ} → e ≡ none → Chain stack e 0
   frame : {e n : ℕ} → e ≢ none → e + link_place < length stack → (link_in stack e ≢ none → link_in stack e < e) → Chain stack (link_in stack e) n → Chain stack e (suc n)
 
+-- there is one such chain at most
+pub Chain-prop : {stack : List ℕ} {e n : ℕ} → IsProp (Chain stack e n)
+Chain-prop (nothing p) (nothing q) = λ i. nothing (ℕ_set _ _ p q i)
+Chain-prop (frame s l f c) (frame t m g d) = λ i. frame (Π_prop (λ _. ⊥_prop) s t i) (le_prop l m i) (Π_prop (λ _. le_prop) f g i) (Chain-prop c d i)
+
 -- so many choice points from b, and so many frames in the largest of their chains
 pub data Points (stack : List ℕ) : ℕ → ℕ → ℕ → Type 0 where
   nothing : {b : ℕ} → b ≡ none → Points stack b 0 0
@@ -102,43 +110,45 @@ pub record Pointed (stack : List ℕ) (b : ℕ) : Type 0 where
   pub frames : ℕ
   pub chains : Points stack b points frames
 
--- the work words from `notes` on: what is noted of a stack word is the length of the chain from it
-pub record Memo (stack : List ℕ) (notes : ℕ) (work : List ℕ) : Type 0 where
-  pub room : notes + length stack ≤ length work
-  pub noted : (e : ℕ) → e < length stack → 0 < get_or work (notes + e) 0 → Chain stack e (get_or work (notes + e) 0)
+-- the notes, a word for each stack word: what is noted of one is the length of the chain from it
+pub record Memo (stack notes : List ℕ) : Type 0 where
+  pub room : length stack ≤ length notes
+  pub noted : (e : ℕ) → e < length stack → 0 < get_or notes e 0 → Chain stack e (get_or notes e 0)
+
+pub Memo-prop : (stack notes : List ℕ) → IsProp (Memo stack notes)
+Memo-prop stack notes a b = λ i. record { room = le_prop a.room b.room i; noted = Π_prop (λ _. Π_prop λ _. Π_prop λ _. Chain-prop) a.noted b.noted i }
 
 -- notes are made, and no other word is written
-pub record Notes (stack : List ℕ) (notes : ℕ) (work work' : List ℕ) : Type 0 where
-  pub memo : Memo stack notes work'
-  pub rest : Kept notes (notes + length stack) work work'
+pub record Notes (stack notes notes' : List ℕ) : Type 0 where
+  pub memo : Memo stack notes'
+  pub rest : Kept 0 (length stack) notes notes'
 
 -- the chain from e, and what is noted of it
-pub record Chains (stack : List ℕ) (notes e : ℕ) (work : List ℕ) (n : ℕ) (work' : List ℕ) : Type 0 where
+pub record Chains (stack : List ℕ) (e : ℕ) (notes : List ℕ) (n : ℕ) (notes' : List ℕ) : Type 0 where
   pub chain : Chain stack e n
-  pub noted : Notes stack notes work work'
+  pub noted : Notes stack notes notes'
 
 -- the choice points from b are counted
-pub record CountsPoints (stack : List ℕ) (notes b : ℕ) (tally : Tally) (work : List ℕ) (r : Tally) (work' : List ℕ) : Type 0 where
+pub record CountsPoints (stack : List ℕ) (b : ℕ) (tally : Tally) (notes : List ℕ) (r : Tally) (notes' : List ℕ) : Type 0 where
   pub points : ℕ
   pub frames : ℕ
   pub chains : Points stack b points frames
   pub next : r ≡ with_chains tally points frames
-  pub noted : Notes stack notes work work'
+  pub noted : Notes stack notes notes'
 
 -- and the control area's own chain
-pub record CountsChains (control stack : List ℕ) (notes : ℕ) (tally : Tally) (work : List ℕ) (r : Tally) (work' : List ℕ) : Type 0 where
+pub record CountsChains (control stack : List ℕ) (tally : Tally) (notes : List ℕ) (r : Tally) (notes' : List ℕ) : Type 0 where
   pub own : ℕ
   pub chain : Chain stack (field control 0 E) own
-  pub points : CountsPoints stack notes (field control 0 B) (with_chain tally own) work r work'
+  pub points : CountsPoints stack (field control 0 B) (with_chain tally own) notes r notes'
 
 -- ---- one image
 
--- What stands when an image is read and collected: the image as it was read, what was read of it, and what the collector answered.
-pub record AfterCollection (read : Tally) (entries : Counts) (control stack heap work : List ℕ) : Type 0 where
+-- What stands when an image is read and collected: the image as it was read, what was read of it, and what the collector answered and left.
+pub record AfterCollection (read : Tally) (entries : Counts) (left : Image) (work : List ℕ) : Type 0 where
   pub image : Image
   pub accepted : Accepted image
-  pub trail : List ℕ
-  pub to : CollectedTo image (record { control = control; stack = stack; heap = heap; trail = trail })
+  pub to : CollectedTo image left
   pub cells : read ≡ read_tally image.heap (reg image H)
   pub kept : entries.kept ≡ below to.entries (reg image T)
   pub dropped : entries.dropped ≡ reg image T - below to.entries (reg image T)
@@ -147,6 +157,6 @@ pub record AfterCollection (read : Tally) (entries : Counts) (control stack heap
 
 -- the image X, which is refused, or collected and counted
 pub data CountsImage (X : Image) (work : List ℕ) : Counted → Image → List ℕ → Type 0 where
-  refused_image : (refusal : Refusal) → verdict (length work) X ≡ verdict_of refusal → CountsImage X work (Refused refusal) X (work_after X work)
+  refused_image : (refusal : Refusal) → verdict (length work) X ≡ verdict_of refusal → CountsImage X work (Err (uncounted.Image refusal)) X (work_after X work)
   counted : (Y : Image) → verdict (length work) X ≡ accepted → (to : CollectedTo X Y)
-      → CountsImage X work (Figures (tally_of to.cells to.entries X)) Y (work_after X work)
+      → CountsImage X work (Ok (tally_of to.cells to.entries X)) Y (work_after X work)

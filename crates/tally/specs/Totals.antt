@@ -1,6 +1,6 @@
 -- Tallies that run on: one cell read, one cell kept, two tallies added; what the totals of a month are, and that they are exact.
 -- Document 02, order 1. Assumes nothing.
-use Rattle.std.specs.Prelude.{ℕ, ◌+◌, ◌-◌, ◌*◌, ◌^◌, max, ◌≤◌, ◌<◌, ◌≡◌, Bool, List, [], ◌∷◌, length}
+use Rattle.std.specs.Prelude.{ℕ, ◌+◌, ◌-◌, ◌*◌, ◌^◌, max, ◌≤◌, ◌<◌, ◌≡◌, Ok, Err, Bool, List, [], ◌∷◌, length}
 use Rattle.cell.specs.Word.{pick}
 use Rattle.machine.specs.Layout.{Image, H, reg}
 use Rattle.machine.specs.Moved.{CollectedTo}
@@ -8,10 +8,8 @@ use Rattle.machine.specs.Answers.{counted}
 use Rattle.machine.proofs.Lists.{In}
 use Rattle.tally.specs.declared.Tags.{Tags}
 use Rattle.tally.specs.declared.Tally.{Tally}
-use Rattle.tally.specs.declared.Counted.{Counted}
-use Rattle.tally.specs.declared.Counted.TheVariants.{Figures, Refused, BadFile}
 use Rattle.tally.specs.Figures.{Tag, var, structure, list, constant, of_tag, tags_by, Figure, kept, dropped, figure, tally_by, has_tag, tally_of}
-use Rattle.tally.specs.Counts.{CountsFile}
+use Rattle.tally.specs.Counts.{Counted, CountsFile}
 
 abbrev pub empty : Tally
 empty = tally_by (λ f. 0) 0
@@ -48,9 +46,8 @@ plus a b = tally_by (λ f. figure f a + figure f b) (max a.deepest b.deepest)
 
 -- the tally so far and one file more: "A refused image counts under its number and adds nothing else."
 abbrev pub after : Tally → Counted → Tally
-after sum (Figures tally) = plus sum tally
-after sum (Refused refusal) = sum
-after sum (BadFile refusal) = sum
+after sum (Ok tally) = plus sum tally
+after sum (Err why) = sum
 
 -- the total of a month of files, in their order, after what was counted before them
 unfoldable pub total_from : Tally → List Counted → Tally
@@ -62,14 +59,12 @@ total files = total_from empty files
 
 -- what one file adds, and what it has as deepest chain
 abbrev pub adds : Figure → Counted → ℕ
-adds f (Figures tally) = figure f tally
-adds f (Refused refusal) = 0
-adds f (BadFile refusal) = 0
+adds f (Ok tally) = figure f tally
+adds f (Err why) = 0
 
 abbrev pub deepest_of_file : Counted → ℕ
-deepest_of_file (Figures tally) = tally.deepest
-deepest_of_file (Refused refusal) = 0
-deepest_of_file (BadFile refusal) = 0
+deepest_of_file (Ok tally) = tally.deepest
+deepest_of_file (Err why) = 0
 
 unfoldable pub sum : (Counted → ℕ) → List Counted → ℕ
 sum count [] = 0

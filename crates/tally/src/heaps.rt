@@ -10,10 +10,8 @@ pub fn read_heap(heap: &[u32], count: usize) -> Tally
     ensures { result ≡ read_tally heap.now count }
 {
     let mut tally = Tally::empty();
-    let mut x = 0;
-    while x < count {
-        tally = tally.read(heap[x]);
-        x += 1;
+    for word in &heap[..count] {
+        tally = tally.read(*word);
     }
     tally
 }
@@ -25,10 +23,8 @@ pub fn keep_heap(read: Tally, heap: &[u32], count: usize) -> Tally
     ensures { result ≡ kept_tally read heap.now count }
 {
     let mut tally = read;
-    let mut x = 0;
-    while x < count {
-        tally = tally.keep(heap[x]);
-        x += 1;
+    for word in &heap[..count] {
+        tally = tally.keep(*word);
     }
     tally
 }

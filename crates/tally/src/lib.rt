@@ -8,18 +8,20 @@ mod tallies;
 ghost use Rattle.std.specs.Prelude.{◌≡◌, ◌≤◌, length};
 ghost use Rattle.machine.specs.Layout.{fixed, field};
 ghost use Rattle.machine.specs.Layout as layout;
+ghost use Rattle.machine.specs.Lent.{seen};
 ghost use Rattle.freeze.specs.Thaw.{image_of};
 ghost use Rattle.tally.specs.Figures.{tally_of};
 ghost use Rattle.tally.specs.Parts.{AfterCollection, CountsImage};
 ghost use Rattle.tally.specs.Counts.{CountsFile};
+ghost use Rattle.tally.specs.declared.Uncounted.TheVariants.{Image, File};
 
 use frames::count_chains;
-use freeze::{FileRefusal, Thawed};
+use freeze::FileRefusal;
 use heaps::{keep_heap, read_heap};
-use machine::{Collected, Counts, H, Refusal};
+use machine::{Counts, H, Refusal, View};
 
 // Heap cells by tag.
-#[derive(Clone, Copy)]
+#[derive(Clone, Copy, Default)]
 pub struct Tags {
     pub var: u64,
     pub structure: u64,
@@ -28,7 +30,7 @@ pub struct Tags {
 }
 
 // The figures of a file, or of several together.
-#[derive(Clone, Copy)]
+#[derive(Clone, Copy, Default)]
 pub struct Tally {
     pub kept: Tags,
     pub dropped: Tags,
@@ -38,31 +40,39 @@ pub struct Tally {
     pub deepest: u64,
 }
 
-// What a file gives: its figures, or why its image is refused, or why it is not read.
+// Why a file has no figures: its image is refused, or it is not read.
 #[derive(Clone, Copy)]
-pub enum Counted {
-    Figures(Tally),
-    Refused(Refusal),
-    BadFile(FileRefusal),
+pub enum Uncounted {
+    Image(Refusal),
+    File(FileRefusal),
+}
+
+impl From<Refusal> for Uncounted {
+    ghost from_gives = { λ refusal r. r ≡ Image refusal };
+
+    fn from(refusal: Refusal) -> Uncounted {
+        Uncounted::Image(refusal)
+    }
+}
+
+impl From<FileRefusal> for Uncounted {
+    ghost from_gives = { λ refusal r. r ≡ File refusal };
+
+    fn from(refusal: FileRefusal) -> Uncounted {
+        Uncounted::File(refusal)
+    }
 }
 
 // The figures of an image that was read and then collected.
-fn figures(
-    read: Tally,
-    entries: Counts,
-    control: &[u32],
-    stack: &[u32],
-    heap: &[u32],
-    work: &mut [u32],
-) -> Tally
-    requires { AfterCollection read entries control.now stack.now heap.now work.old }
-    ensures value { (a : AfterCollection read entries control.now stack.now heap.now work.old) → result ≡ tally_of a.to.cells a.to.entries a.image }
+fn figures(read: Tally, entries: Counts, view: View<'_>, work: &mut [u32]) -> Tally
+    requires { AfterCollection read entries (seen view) work.old }
+    ensures value { (a : AfterCollection read entries (seen view.entry) work.old) → result ≡ tally_of a.to.cells a.to.entries a.image }
     ensures work_unchanged { work.new ≡ work.old }
 {
-    let kept = keep_heap(read, heap, control[H] as usize);
-    let notes = heap.len();
-    let tally = count_chains(kept.trail(entries), control, stack, work, notes);
-    counts::clear(work, notes, notes + stack.len());
+    let kept = keep_heap(read, view.heap, view.control[H] as usize);
+    let notes = &mut work[view.heap.len()..];
+    let tally = count_chains(kept.trail(entries), view.control, view.stack, notes);
+    counts::clear(notes, 0, view.stack.len());
     tally
 }
 
@@ -73,17 +83,19 @@ fn count_image(
     heap: &mut [u32],
     trail: &mut [u32],
     work: &mut [u32],
-) -> Counted
+) -> Result<Tally, Uncounted>
     requires { (fixed ≤ length control.old) × (field control.old 0 layout.H ≤ length heap.old) }
     ensures { CountsImage (image_of control.old stack.old heap.old trail.old) work.old result (image_of control.new stack.new heap.new trail.new) work.new }
 {
     let read = read_heap(heap, control[H] as usize);
-    match collect::collect(control, stack, heap, trail, work) {
-        Collected::Done { cells: _, entries } => {
-            Counted::Figures(figures(read, entries, control, stack, heap, work))
-        }
-        Collected::Refused(refusal) => Counted::Refused(refusal),
-    }
+    let done = collect::collect(control, stack, heap, trail, work)?;
+    let view = View {
+        control,
+        stack,
+        heap,
+        trail,
+    };
+    Ok(figures(read, done.entries, view, work))
 }
 
 // Reads a freeze file into four lent areas, collects, and counts the figures.
@@ -94,14 +106,9 @@ pub fn count_file(
     heap: &mut [u32],
     trail: &mut [u32],
     work: &mut [u32],
-) -> Counted
+) -> Result<Tally, Uncounted>
     ensures { CountsFile file.now (image_of control.old stack.old heap.old trail.old) work.old result (image_of control.new stack.new heap.new trail.new) work.new }
 {
-    match freeze::thaw(file, control, stack, heap, trail) {
-        Thawed::Areas(counts) => {
-            let front = counts.stack;
-            count_image(control, &mut stack[..front], heap, trail, work)
-        }
-        Thawed::Refused(refusal) => Counted::BadFile(refusal),
-    }
+    let counts = freeze::thaw(file, control, stack, heap, trail)?;
+    count_image(control, &mut stack[..counts.stack], heap, trail, work)
 }

@@ -1,6 +1,5 @@
 // A tally by value: each method gives the next tally back.
-ghost use Rattle.std.specs.Prelude.{◌≡◌, ◌+◌, ◌-◌, ◌<◌, ◌≤◌, max, eqb};
-ghost use Rattle.cell.specs.Word.{pick, tag_of};
+ghost use Rattle.std.specs.Prelude.{◌≡◌, ◌+◌, ◌-◌, ◌<◌, ◌≤◌};
 ghost use Rattle.tally.specs.Figures.{Tag, of_tag, tags_by};
 ghost use Rattle.tally.specs.Totals.{empty, hit, with_read, with_kept, plus, limit, Room, Fits};
 ghost use Rattle.tally.specs.Parts.{with_trail, with_chain, with_point, RoomFor};
@@ -8,31 +7,39 @@ ghost use Rattle.tally.specs.Parts.{with_trail, with_chain, with_point, RoomFor}
 use crate::{Tags, Tally};
 use machine::Counts;
 
-// 1 if a word has the tag, else 0.
-fn one_if(word: u32, tag: u32) -> u64
-    ensures { result ≡ pick (eqb (tag_of word) tag) 1 0 }
-{
-    if cell::tag(word) == tag { 1 } else { 0 }
-}
-
-fn larger(a: u64, b: u64) -> u64
-    ensures { result ≡ max a b }
-{
-    if a <= b { b } else { a }
-}
-
 impl Tags {
+    // One under a word's tag.
+    fn one(word: u32) -> Tags
+        ensures { result ≡ tags_by (λ tag. hit word tag) }
+    {
+        let tag = cell::Tag::of(word);
+        Tags {
+            var: u64::from(tag == cell::Tag::Var),
+            structure: u64::from(tag == cell::Tag::Struct),
+            list: u64::from(tag == cell::Tag::List),
+            constant: u64::from(tag == cell::Tag::Const),
+        }
+    }
+
+    // The counts of two taken together, tag by tag.
+    fn each<F: Fn(u64, u64) -> u64>(self, other: Tags, f: F) -> Tags
+        requires { (tag : Tag) → F.pre f (of_tag tag self) (of_tag tag other) }
+        ensures { (tag : Tag) → F.post f (of_tag tag self) (of_tag tag other) (of_tag tag result) }
+    {
+        Tags {
+            var: f(self.var, other.var),
+            structure: f(self.structure, other.structure),
+            list: f(self.list, other.list),
+            constant: f(self.constant, other.constant),
+        }
+    }
+
     // One more under a word's tag.
     fn more(self, word: u32) -> Tags
         requires { Room self }
         ensures { result ≡ tags_by (λ tag. of_tag tag self + hit word tag) }
     {
-        Tags {
-            var: self.var + one_if(word, cell::VAR),
-            structure: self.structure + one_if(word, cell::STRUCT),
-            list: self.list + one_if(word, cell::LIST),
-            constant: self.constant + one_if(word, cell::CONST),
-        }
+        self.plus(Tags::one(word))
     }
 
     // One fewer under a word's tag.
@@ -40,12 +47,7 @@ impl Tags {
         requires { (tag : Tag) → hit word tag ≤ of_tag tag self }
         ensures { result ≡ tags_by (λ tag. of_tag tag self - hit word tag) }
     {
-        Tags {
-            var: self.var - one_if(word, cell::VAR),
-            structure: self.structure - one_if(word, cell::STRUCT),
-            list: self.list - one_if(word, cell::LIST),
-            constant: self.constant - one_if(word, cell::CONST),
-        }
+        self.each(Tags::one(word), |a, b| a - b)
     }
 
     // The counts of two added.
@@ -53,12 +55,7 @@ impl Tags {
         requires { RoomFor self other }
         ensures { result ≡ tags_by (λ tag. of_tag tag self + of_tag tag other) }
     {
-        Tags {
-            var: self.var + other.var,
-            structure: self.structure + other.structure,
-            list: self.list + other.list,
-            constant: self.constant + other.constant,
-        }
+        self.each(other, |a, b| a + b)
     }
 }
 
@@ -66,20 +63,7 @@ impl Tally {
     pub fn empty() -> Tally
         ensures { result ≡ empty }
     {
-        let none = Tags {
-            var: 0,
-            structure: 0,
-            list: 0,
-            constant: 0,
-        };
-        Tally {
-            kept: none,
-            dropped: none,
-            entries_kept: 0,
-            entries_dropped: 0,
-            points: 0,
-            deepest: 0,
-        }
+        Tally::default()
     }
 
     // Takes one cell as it is read. It counts as dropped until it is kept.
@@ -87,8 +71,7 @@ impl Tally {
         requires { Room self.dropped }
         ensures { result ≡ with_read self word }
     {
-        let dropped = self.dropped.more(word);
-        self.dropped = dropped;
+        self.dropped = self.dropped.more(word);
         self
     }
 
@@ -98,10 +81,8 @@ impl Tally {
         requires tag_bound { (tag : Tag) → hit word tag ≤ of_tag tag self.dropped }
         ensures { result ≡ with_kept self word }
     {
-        let kept = self.kept.more(word);
-        let dropped = self.dropped.fewer(word);
-        self.kept = kept;
-        self.dropped = dropped;
+        self.kept = self.kept.more(word);
+        self.dropped = self.dropped.fewer(word);
         self
     }
 
@@ -118,7 +99,7 @@ impl Tally {
     pub fn chain(mut self, frames: u64) -> Tally
         ensures { result ≡ with_chain self frames }
     {
-        self.deepest = larger(self.deepest, frames);
+        self.deepest = self.deepest.max(frames);
         self
     }
 
@@ -128,7 +109,7 @@ impl Tally {
         ensures { result ≡ with_point self frames }
     {
         self.points += 1;
-        self.deepest = larger(self.deepest, frames);
+        self.deepest = self.deepest.max(frames);
         self
     }
 
@@ -137,15 +118,13 @@ impl Tally {
         requires { Fits self other }
         ensures { result ≡ plus self other }
     {
-        let kept = self.kept.plus(other.kept);
-        let dropped = self.dropped.plus(other.dropped);
         Tally {
-            kept,
-            dropped,
+            kept: self.kept.plus(other.kept),
+            dropped: self.dropped.plus(other.dropped),
             entries_kept: self.entries_kept + other.entries_kept,
             entries_dropped: self.entries_dropped + other.entries_dropped,
             points: self.points + other.points,
-            deepest: larger(self.deepest, other.deepest),
+            deepest: self.deepest.max(other.deepest),
         }
     }
 }

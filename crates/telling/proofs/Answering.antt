@@ -7,7 +7,6 @@ use native.Mathlib.Decide.{dec_lt}
 use lib.ListN.{length, get_or, drop, length-append, get_or-append}
 use lib.Seq.{get_or_at}
 use Rattle.machine.specs.declared.Area.{Area}
-use Rattle.machine.specs.declared.Place.{Place}
 use Rattle.machine.specs.Layout.{Image, H, reg}
 use Rattle.machine.specs.Refusals.{Verdict, accepted, refused, verdict}
 use Rattle.machine.proofs.Accepted.{Accepted}
@@ -16,9 +15,9 @@ use Rattle.promise.proofs.Reaching.{reached-low}
 use Rattle.order.specs.Chains.{Chain, direct, onward, Best}
 use Rattle.order.proofs.Chains.{chain-root, chain-reached}
 use Rattle.listing.specs.Lines.{verdict_text}
-use Rattle.holder.specs.declared.Why.{Why}
-use Rattle.holder.specs.declared.Why.TheVariants.{Held}
-use Rattle.holder.specs.Answers.{held, refusal, said_of, Outcome, is_held, Explains}
+use Rattle.std.specs.Prelude.{Some, Ok}
+use Rattle.holder.specs.declared.Held.{Held}
+use Rattle.holder.specs.Answers.{held, refusal, said_of, Outcome, is_held}
 use Rattle.telling.specs.Text.{said_text}
 use Rattle.telling.specs.Parts.{Rooted, Indexes, Answered}
 
@@ -42,19 +41,15 @@ pub record HeldBy (X : Image) (lent x : ℕ) (room : List ℕ) (area : Area) (in
 held_by : {X : Image} {lent x : ℕ} {room : List ℕ} {area : Area} {index n : ℕ} {room' : List ℕ} → Outcome X lent x room (held area index n) room' → HeldBy X lent x room area index n room'
 held_by (is_held {cells = cells} v l b m) = record { cells = cells; passes = v; best = b; count = refl; stands = refl }
 
-module _ {control stack heap work : List ℕ} {root : Place} {n : ℕ} {room : List ℕ} (a : Answered control stack heap work (Held root n) room) where
-  pub holds : HeldBy a.image (length a.lent_work) a.asked a.lent_room root.area root.index n room
+module _ {X : Image} {work : List ℕ} {h : Held} {room : List ℕ} (a : Answered X work (Ok (Some h)) room) where
+  pub holds : HeldBy X (length a.lent_work) a.asked a.lent_room h.root.area h.root.index h.length room
   unfolding said_of
   holds = held_by a.explains.outcome
 
-  unfoldable pub answer-rooted : Rooted control stack work (length heap) root.area root.index
+  pub answer-rooted : Rooted X work h.root.area h.root.index
   answer-rooted =
       let r = chain-root holds.best.chain in
       record {
-        image = a.image;
-        same_control = a.same_control;
-        same_stack = a.same_stack;
-        after_heap = ap length a.same_heap;
         lent = a.lent_work;
         passes = holds.passes;
         cleared = a.explains.cleared;
@@ -62,9 +57,9 @@ module _ {control stack heap work : List ℕ} {root : Place} {n : ℕ} {room : L
         root = r.1;
       }
 
-  pub answer-indexes : Indexes heap room n
+  pub answer-indexes : Indexes X.heap room h.length
   answer-indexes =
-      let v = verdict-accepted (length a.lent_work) a.image holds.passes in
+      let v = verdict-accepted (length a.lent_work) X holds.passes in
       let rest = drop (length holds.cells) a.lent_room in
       record {
         fits = omega (arith, holds.count, ap length holds.stands, length-append holds.cells rest);
@@ -76,22 +71,8 @@ module _ {control stack heap work : List ℕ} {root : Place} {n : ℕ} {room : L
               get_or-append holds.cells rest 0 i m,
               chain-low v.0 holds.best.chain i m,
               v.0.fits.heap,
-              ap length a.same_heap,
             );
       }
-
--- the same answer under another name
-abbrev pub answered-as : {control stack heap work : List ℕ} {why why' : Why} {room : List ℕ} → why ≡ why' → Answered control stack heap work why room → Answered control stack heap work why' room
-answered-as {work = work} {room = room} e a = record {
-  image = a.image;
-  same_control = a.same_control;
-  same_stack = a.same_stack;
-  same_heap = a.same_heap;
-  asked = a.asked;
-  lent_work = a.lent_work;
-  lent_room = a.lent_room;
-  explains = subst (λ (other : Why). Explains a.image a.lent_work a.asked a.lent_room other work room) e a.explains;
-}
 
 -- a refusal's text is its verdict's
 pub refusal-text : (X : Image) (v : Verdict) (room : List ℕ) → said_text X (refusal v) room ≡ verdict_text v

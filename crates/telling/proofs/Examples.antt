@@ -8,7 +8,7 @@ use Rattle.text.specs.Decimal.{digits, read_on}
 use Rattle.text.specs.Line.{ascii, spaced}
 use Rattle.listing.specs.Text.{place_text, refused_text}
 use Rattle.holder.specs.Answers.{held, dead, refusal, above}
-use Rattle.telling.specs.declared.Asked.TheVariants.{Index, Bad}
+use Rattle.std.specs.Prelude.{Some, None}
 use Rattle.telling.specs.Text.{member_text, owner_text, argument_text, kind_text, site_text, root_line, tag_name, cell_line, cell_lines, said_text}
 use Rattle.telling.specs.Number.{all_digits, is_index, asked_of}
 
@@ -39,26 +39,26 @@ unfolding told
 no_cell_lem = refl
 
 -- zeros may lead; a sign, a blank and nothing at all are no number
-asked-plain : asked_of (ascii "42") ≡ Index 42
+asked-plain : asked_of (ascii "42") ≡ Some 42
 unfolding told
 asked-plain = refl
 
-asked-zeros : asked_of (ascii "0042") ≡ Index 42
+asked-zeros : asked_of (ascii "0042") ≡ Some 42
 unfolding told
 asked-zeros = refl
 
-asked-largest : asked_of (ascii "4294967295") ≡ Index 4294967295
+asked-largest : asked_of (ascii "4294967295") ≡ Some 4294967295
 unfolding told
 asked-largest = refl
 
-asked-too-large : asked_of (ascii "4294967296") ≡ Bad
+asked-too-large : asked_of (ascii "4294967296") ≡ None
 unfolding told
 asked-too-large = refl
 
-asked-signed : asked_of (ascii "+1") ≡ Bad
+asked-signed : asked_of (ascii "+1") ≡ None
 unfolding told
 asked-signed = refl
 
-asked-nothing : asked_of (ascii "") ≡ Bad
+asked-nothing : asked_of (ascii "") ≡ None
 unfolding told
 asked-nothing = refl

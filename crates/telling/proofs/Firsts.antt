@@ -6,7 +6,9 @@ use mathlib.Core.Bool.{Bool, true, false, ◌||◌}
 use mathlib.Core.List.{List, [], ◌∷◌}
 use native.Mathlib.Omega.{arith}
 use lib.Dec.{leb}
+use lib.ListN.{drop}
 use borrow.Author.Tests.{eq-eqb, leb-true, le-leb, ltb-true, lt-ltb}
+use Rattle.std.proofs.lemmas.List.{get_or-drop}
 use Rattle.machine.specs.Layout.{Image, N, place_of, fixed, at, frame_fixed, link_place}
 use Rattle.machine.specs.Chains.{Thing, frame, point, walk}
 use Rattle.machine.specs.Roles.{Role, cell, gives, some, has, code_of, note_at}
@@ -92,9 +94,9 @@ module _ {X : Image} (k : Linked X) {work : List ℕ} {notes : ℕ} (n : Noted X
       let h : has X j r ≡ true = in_some (gives X j r) (walk X) m g in
       (n.role j (role-low X k j r (has-is X j r h)) r).1 h
 
-  pub first-shown : (i : ℕ) (f : First X i (walk X)) → Shown work notes i (owner_of f.thing)
+  pub first-shown : (i : ℕ) (f : First X i (walk X)) → Shown (drop notes work) i (owner_of f.thing)
   first-shown i f = record {
     low = gives-low X i f.thing f.has-cell;
-    last = given-noted f.listed _ _ (gives-last X f.thing);
-    cells = λ j l h. given-noted f.listed j cell (gives-before X i f.thing f.has-cell j l h);
+    last = get_or-drop notes work _ 0 ∙ given-noted f.listed _ _ (gives-last X f.thing);
+    cells = λ j l h. get_or-drop notes work j 0 ∙ given-noted f.listed j cell (gives-before X i f.thing f.has-cell j l h);
   }

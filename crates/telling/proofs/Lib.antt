@@ -1,6 +1,5 @@
 pub mod Numbers
 pub mod Cells
-pub mod Owning
 pub mod Firsts
 pub mod Rooting
 pub mod Answering

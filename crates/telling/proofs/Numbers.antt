@@ -3,7 +3,6 @@ use Prim.Native.Nat.{ℕ, ◌+◌, ◌-◌, ◌*◌, ◌≤◌, ◌<◌}
 use mathlib.Core.Path.{◌≡◌, refl, sym, ap, ◌∙◌}
 use mathlib.Core.Bool.{Bool, true, false, ◌&&◌}
 use mathlib.Core.List.{List, [], ◌∷◌}
-use native.Mathlib.Nat.{pos_of_ne-zero}
 use native.Mathlib.Omega.{arith}
 use native.Mathlib.Numerals.{add-one}
 use lib.Dec.{leb, ltb}
@@ -13,7 +12,7 @@ use borrow.Author.Tests.{lt-ltb, le-ltb, le-leb, lt-leb}
 use Rattle.machine.proofs.Tests.{and-true, and-unless}
 use Rattle.text.specs.Decimal.{zero_digit, base, read_on}
 use Rattle.text.proofs.Decimals.{read_on-grows}
-use Rattle.telling.specs.declared.Asked.TheVariants.{Index, Bad}
+use Rattle.std.specs.Prelude.{Some, None}
 use Rattle.telling.specs.Number.{is_digit, all_digits, word_limit, is_index, index_if, asked_of}
 
 -- the digits before i are read, and their number is n
@@ -30,9 +29,14 @@ with_digit n d = n * base + (d - zero_digit)
 pub reading-none : (text : List ℕ) → Reading text 0 0
 reading-none text = record { within = omega arith; low = omega arith; digits = refl; value = refl }
 
-bad-if : (text : List ℕ) → is_index text ≡ false → Bad ≡ asked_of text
+bad-if : (text : List ℕ) → is_index text ≡ false → None ≡ asked_of text
 unfolding asked_of
 bad-if text e = sym (ap (λ (b : Bool). index_if b (read_on 0 text)) e)
+
+-- nothing at all is no number
+pub nothing-read : (text : List ℕ) → length text ≡ 0 → None ≡ asked_of text
+unfolding is_index
+nothing-read text z = bad-if text (ap (λ (b : Bool). b && (all_digits text && ltb (read_on 0 text) word_limit)) (lt-leb 1 (length text) (omega arith)))
 
 module _ {text : List ℕ} {n i : ℕ} (r : Reading text n i) where
   module _ (h : i < length text) where
@@ -47,23 +51,23 @@ module _ {text : List ℕ} {n i : ℕ} (r : Reading text n i) where
     unfolding read_on
     value-next = r.value ∙ ap (read_on n) next
 
-    pub reading-more : is_digit (get_or text i 0) ≡ true → with_digit n (get_or text i 0) < word_limit → Reading text (with_digit n (get_or text i 0)) (i + 1)
-    reading-more d l = record {
+    pub reading-more : {m : ℕ} → is_digit (get_or text i 0) ≡ true → m ≡ with_digit n (get_or text i 0) → m < word_limit → Reading text m (i + 1)
+    reading-more d e l = record {
       within = omega arith;
       low = l;
       digits = digits-next ∙ ap (λ (b : Bool). b && all_digits (drop (i + 1) text)) d;
-      value = value-next;
+      value = value-next ∙ ap (λ (m : ℕ). read_on m (drop (i + 1) text)) (sym e);
     }
 
     -- a byte that is no digit
-    pub reading-stray : is_digit (get_or text i 0) ≡ false → Bad ≡ asked_of text
+    pub reading-stray : is_digit (get_or text i 0) ≡ false → None ≡ asked_of text
     unfolding is_index
     reading-stray d =
         bad-if text
         (and-unless (leb 1 (length text)) _ (λ q. ap (λ (b : Bool). b && ltb (read_on 0 text) word_limit) (digits-next ∙ ap (λ (b : Bool). b && all_digits (drop (i + 1) text)) d)))
 
     -- no further digit makes a number smaller
-    pub reading-large : word_limit ≤ with_digit n (get_or text i 0) → Bad ≡ asked_of text
+    pub reading-large : word_limit ≤ with_digit n (get_or text i 0) → None ≡ asked_of text
     unfolding is_index
     reading-large l =
         let g = read_on-grows (with_digit n (get_or text i 0)) (drop (i + 1) text) in
@@ -81,16 +85,12 @@ module _ {text : List ℕ} {n i : ℕ} (r : Reading text n i) where
     unfolding all_digits
     digits-end = r.digits ∙ ap all_digits at-end
 
-    pub reading-empty : i ≡ 0 → Bad ≡ asked_of text
-    unfolding is_index
-    reading-empty z = bad-if text (ap (λ (b : Bool). b && (all_digits text && ltb (read_on 0 text) word_limit)) (lt-leb 1 (length text) (omega arith)))
-
-    is-index : (i ≡ 0 → ⊥) → is_index text ≡ true
+    is-index : 0 < length text → is_index text ≡ true
     unfolding is_index
     is-index z =
-        and-true _ _ (le-leb 1 (length text) (pos_of_ne-zero (λ e. z (omega (arith, r.within)))))
+        and-true _ _ (le-leb 1 (length text) z)
         (and-true _ _ digits-end (lt-ltb (read_on 0 text) word_limit (omega (arith, value-end, r.low))))
 
-    pub reading-ends : (i ≡ 0 → ⊥) → Index n ≡ asked_of text
+    pub reading-ends : 0 < length text → Some n ≡ asked_of text
     unfolding asked_of
-    reading-ends z = ap Index (sym value-end) ∙ sym (ap (λ (b : Bool). index_if b (read_on 0 text)) (is-index z))
+    reading-ends z = ap Some (sym value-end) ∙ sym (ap (λ (b : Bool). index_if b (read_on 0 text)) (is-index z))

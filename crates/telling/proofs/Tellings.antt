@@ -13,13 +13,12 @@ use Rattle.freeze.specs.Thaw.{thaw_verdict, Thaws}
 use Rattle.freeze.specs.RoundTrips.{just_stack}
 use Rattle.freeze.proofs.VerdictLaws.{refusal-refuses}
 use Rattle.freeze.proofs.ThawLaws.{accepted-answer}
-use Rattle.freeze.specs.declared.Thawed.TheVariants as thawing
+use Rattle.std.specs.Prelude.{Ok, Err}
 use Rattle.freeze.specs.Verdicts as files
 use Rattle.listing.specs.Lines.{file_verdict_text}
 use Rattle.listing.specs.Lists.{thawed, taken, line_most}
 use Rattle.listing.proofs.Listings.{sets_over, bad-left, taken_is, thawed-is}
-use Rattle.holder.specs.declared.Why.{Why}
-use Rattle.holder.specs.Answers.{said_of, Explains}
+use Rattle.holder.specs.Answers.{Told, said_of, Explains}
 use Rattle.telling.specs.Text.{said_text}
 use Rattle.telling.specs.Tells.{Outcomes, bad_file, told, text_most, Tells}
 
@@ -42,14 +41,14 @@ module _ (file : List ℕ) (lent : Image) (work : List ℕ) (x : ℕ) (room : Li
   refused-outcome files.accepted e n = absurd (n refl)
   refused-outcome (files.refused number offset) e n = bad_file number offset e
 
-  pub tells-bad : (q : FileRefusal) (left : Image) → Thaws file lent (thawing.Refused q) left → {output output' : List ℕ} {r : ℕ}
+  pub tells-bad : (q : FileRefusal) (left : Image) → Thaws file lent (Err q) left → {output output' : List ℕ} {r : ℕ}
       → PutsShort line_most output 0 (file_verdict_text (files.verdict_of q)) r output' → Tells file lent work x room output r left work room output'
   tells-bad q left t p =
       let b = bad-left file lent work q left t in
       tells-of (record { puts = p.puts; short = omega (arith, p.short) })
       (subst (λ (Z : Image). leaves (file_verdict_text (files.verdict_of q)) Z work room) (sym b.1) (refused-outcome (files.verdict_of q) b.0 (refusal-refuses q)))
 
-  module _ (n : AreaCounts) (areas : Image) (t : Thaws file lent (thawing.Areas n) areas) (why : Why) (work' room' : List ℕ) where
+  module _ (n : AreaCounts) (areas : Image) (t : Thaws file lent (Ok n) areas) (why : Told) (work' room' : List ℕ) where
     said-outcome : {work'' : List ℕ} → Explains (just_stack n.stack areas) work x room why work' room' → work'' ≡ work' → leaves (said_text (just_stack n.stack areas) (said_of why) room') areas work'' room'
     said-outcome {work''} e s =
         let k = taken_is file lent work n areas t in

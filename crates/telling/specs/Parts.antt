@@ -3,12 +3,11 @@ use Rattle.std.specs.Prelude.{ℕ, ◌+◌, ◌-◌, ◌≤◌, ◌<◌, ◌≡�
 use Rattle.machine.specs.declared.Area.{Area}
 use Rattle.machine.specs.Layout.{Image, N, fixed, frame_fixed}
 use Rattle.machine.specs.Chains.{frame, point, walk}
-use Rattle.machine.specs.Roles.{Role, cell, CE, own, code_of, note_at}
+use Rattle.machine.specs.Roles.{Role, cell, CE, own, code_of}
 use Rattle.machine.specs.Refusals.{accepted, verdict}
 use Rattle.machine.specs.Answers.{work_after}
 use Rattle.order.specs.Chains.{RootAt}
-use Rattle.holder.specs.declared.Why.{Why}
-use Rattle.holder.specs.Answers.{Explains}
+use Rattle.holder.specs.Answers.{Told, Explains}
 use Rattle.telling.specs.declared.owners.Owner.{Owner}
 use Rattle.telling.specs.declared.owners.Owner.TheVariants.{Frame, Point}
 use Rattle.telling.specs.Text.{member_text, owner_text}
@@ -30,15 +29,15 @@ last_field (Frame e) = CE
 last_field (Point b) = own N
 
 -- the notes show it: its last field, and after that nothing but cells up to the word i
-pub record Shown (work : List ℕ) (notes i : ℕ) (owner : Owner) : Type 0 where
+pub record Shown (notes : List ℕ) (i : ℕ) (owner : Owner) : Type 0 where
   pub low : cells_from owner ≤ i
-  pub last : note_at work notes (cells_from owner - 1) ≡ code_of (last_field owner)
-  pub cells : (j : ℕ) → cells_from owner ≤ j → j ≤ i → note_at work notes j ≡ code_of cell
+  pub last : get_or notes (cells_from owner - 1) 0 ≡ code_of (last_field owner)
+  pub cells : (j : ℕ) → cells_from owner ≤ j → j ≤ i → get_or notes j 0 ≡ code_of cell
 
-pub record Owned (work : List ℕ) (notes i : ℕ) : Type 0 where
-  pub inside : notes + i < length work
+pub record Owned (notes : List ℕ) (i : ℕ) : Type 0 where
+  pub inside : i < length notes
   pub owner : Owner
-  pub shown : Shown work notes i owner
+  pub shown : Shown notes i owner
 
 -- it is the one that the text speaks of
 pub record Owns (X : Image) (i : ℕ) (owner : Owner) : Type 0 where
@@ -47,18 +46,13 @@ pub record Owns (X : Image) (i : ℕ) (owner : Owner) : Type 0 where
 
 -- ---- the root's line
 
--- a root of an accepted image that has this control area and this stack; the work words are as the call that named the root left them, and the notes
--- begin after those of the heap
-pub record Rooted (control stack work : List ℕ) (notes : ℕ) (area : Area) (index : ℕ) : Type 0 where
-  pub image : Image
-  pub same_control : image.control ≡ control
-  pub same_stack : image.stack ≡ stack
-  pub after_heap : length image.heap ≡ notes
+-- a root of an accepted image; the work words are as the call that named the root left them
+pub record Rooted (X : Image) (work : List ℕ) (area : Area) (index : ℕ) : Type 0 where
   pub lent : List ℕ
-  pub passes : verdict (length lent) image ≡ accepted
-  pub cleared : work ≡ work_after image lent
+  pub passes : verdict (length lent) X ≡ accepted
+  pub cleared : work ≡ work_after X lent
   pub word : ℕ
-  pub root : RootAt image area index word
+  pub root : RootAt X area index word
 
 -- the longest of what a root is, and of where it stands
 abbrev pub kind_most : ℕ
@@ -77,12 +71,8 @@ pub record Indexes (heap room : List ℕ) (count : ℕ) : Type 0 where
 -- ---- the whole text
 
 -- an answer, with what its call left of the work words and of the room
-pub record Answered (control stack heap work : List ℕ) (why : Why) (room : List ℕ) : Type 0 where
-  pub image : Image
-  pub same_control : image.control ≡ control
-  pub same_stack : image.stack ≡ stack
-  pub same_heap : image.heap ≡ heap
+pub record Answered (X : Image) (work : List ℕ) (why : Told) (room : List ℕ) : Type 0 where
   pub asked : ℕ
   pub lent_work : List ℕ
   pub lent_room : List ℕ
-  pub explains : Explains image lent_work asked lent_room why work room
+  pub explains : Explains X lent_work asked lent_room why work room

@@ -5,30 +5,22 @@ mod lines;
 mod number;
 mod owners;
 
-ghost use Rattle.std.specs.Prelude.{◌≡◌};
+ghost use Rattle.std.specs.Prelude.{◌≡◌, Some, Ok};
+ghost use Rattle.machine.specs.Lent.{seen};
 ghost use Rattle.freeze.specs.Thaw.{image_of};
 ghost use Rattle.text.specs.Puts.{PutsShort};
 ghost use Rattle.listing.specs.Lists.{CountsBytes};
-ghost use Rattle.holder.specs.declared.Why.TheVariants.{Held};
 ghost use Rattle.holder.specs.Answers.{said_of};
 ghost use Rattle.telling.specs.Text.{said_text};
 ghost use Rattle.telling.specs.Tells.{text_most, Tells};
 ghost use Rattle.telling.specs.Parts.{Answered};
 
-use freeze::Thawed;
-use holder::Why;
+use holder::{Held, Untold};
 use lines::{put_chain, put_root};
 use listing::{put_bad_file, put_number_alone, put_refusal};
-use machine::Place;
+use machine::View;
 pub use number::read_index;
 use text::put_bytes;
-
-// What an argument asks for: a heap index, or nothing that can be read.
-#[derive(Clone, Copy)]
-pub enum Asked {
-    Index(u32),
-    Bad,
-}
 
 // The refusals that are not the collector's.
 const ABOVE: usize = 18;
@@ -36,48 +28,33 @@ const ABOVE: usize = 18;
 const LONG: usize = 19;
 
 // The root and the chain of a cell that is held.
-fn put_held(
-    output: &mut [u8],
-    root: Place,
-    length: usize,
-    control: &[u32],
-    stack: &[u32],
-    heap: &[u32],
-    work: &mut [u32],
-    room: &[u32],
-) -> usize
-    requires { Answered control.now stack.now heap.now work.old (Held root length) room.now }
-    ensures puts_short { (a : Answered control.now stack.now heap.now work.old (Held root length) room.now)
-        → PutsShort (text_most room.now) output.old 0 (said_text a.image (said_of (Held root length)) room.now) result output.new }
+fn put_held(output: &mut [u8], held: Held, view: View<'_>, work: &mut [u32], room: &[u32]) -> usize
+    requires { Answered (seen view) work.old (Ok (Some held)) room.now }
+    ensures puts_short { PutsShort (text_most room.now) output.old 0 (said_text (seen view.entry) (said_of (Ok (Some held))) room.now) result output.new }
     ensures work_unchanged { work.new ≡ work.old }
 {
-    let chain_at = put_root(output, 0, root, control, stack, work, heap.len());
-    put_chain(output, chain_at, heap, room, length)
+    let chain_at = put_root(output, 0, held.root, view, work);
+    put_chain(output, chain_at, view.heap, room, held.length)
 }
 
 // The text of an answer.
 fn put_why(
     output: &mut [u8],
-    why: Why,
-    control: &[u32],
-    stack: &[u32],
-    heap: &[u32],
+    why: Result<Option<Held>, Untold>,
+    view: View<'_>,
     work: &mut [u32],
     room: &[u32],
 ) -> usize
-    requires { Answered control.now stack.now heap.now work.old why room.now }
-    ensures puts_short { (a : Answered control.now stack.now heap.now work.old why room.now)
-        → PutsShort (text_most room.now) output.old 0 (said_text a.image (said_of why) room.now) result output.new }
+    requires { Answered (seen view) work.old why room.now }
+    ensures puts_short { PutsShort (text_most room.now) output.old 0 (said_text (seen view.entry) (said_of why) room.now) result output.new }
     ensures work_unchanged { work.new ≡ work.old }
 {
     match why {
-        Why::Held { root, length } => {
-            put_held(output, root, length, control, stack, heap, work, room)
-        }
-        Why::Dead => put_bytes(output, 0, b"dead\n"),
-        Why::NoCell => put_number_alone(output, 0, ABOVE),
-        Why::RoomShort => put_number_alone(output, 0, LONG),
-        Why::Refused(refusal) => put_refusal(output, 0, refusal),
+        Ok(Some(held)) => put_held(output, held, view, work, room),
+        Ok(None) => put_bytes(output, 0, b"dead\n"),
+        Err(Untold::NoCell) => put_number_alone(output, 0, ABOVE),
+        Err(Untold::RoomShort) => put_number_alone(output, 0, LONG),
+        Err(Untold::Image(refusal)) => put_refusal(output, 0, refusal),
     }
 }
 
@@ -98,10 +75,15 @@ pub fn tell(
     ensures counts_bytes { CountsBytes result output.new }
 {
     let counts = match freeze::thaw(file, control, stack, heap, trail) {
-        Thawed::Areas(counts) => counts,
-        Thawed::Refused(refusal) => return put_bad_file(output, 0, refusal),
+        Ok(counts) => counts,
+        Err(refusal) => return put_bad_file(output, 0, refusal),
     };
-    let front = counts.stack;
-    let why = holder::why_held(control, &stack[..front], heap, trail, work, index, room);
-    put_why(output, why, control, &stack[..front], heap, work, room)
+    let view = View {
+        control,
+        stack: &stack[..counts.stack],
+        heap,
+        trail,
+    };
+    let why = holder::why_held(view, work, index, room);
+    put_why(output, why, view, work, room)
 }

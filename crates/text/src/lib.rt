@@ -2,7 +2,7 @@
 // What is right stands in specs/.
 #![tactic(auto)]
 
-ghost use Rattle.std.specs.Prelude.{[], ◌∷◌, ◌≡◌, min, take};
+ghost use Rattle.std.specs.Prelude.{[], ◌∷◌, ◌≡◌, take};
 ghost use Rattle.text.specs.Decimal.{decimal};
 ghost use Rattle.text.specs.Line.{spaced, numbers, line};
 ghost use Rattle.text.specs.Puts.{Puts, PutsShort, number_most};
@@ -28,10 +28,8 @@ pub fn put_bytes(output: &mut [u8], from: usize, bytes: &[u8]) -> usize
     ensures { Puts output.old from bytes.now result output.new }
 {
     let mut at = from;
-    let mut i = 0;
-    while i < bytes.len() {
-        at = put_byte(output, at, bytes[i]);
-        i += 1;
+    for byte in bytes {
+        at = put_byte(output, at, *byte);
     }
     at
 }
@@ -56,22 +54,14 @@ pub fn put_spaced(output: &mut [u8], at: usize, n: usize) -> usize
     put_number(output, next, n)
 }
 
-fn least(a: usize, b: usize) -> usize
-    ensures { result ≡ min a b }
-{
-    if a < b { a } else { b }
-}
-
 // The first words of a slice, as many as counted, each after a space.
 pub fn put_numbers(output: &mut [u8], from: usize, words: &[u32], count: usize) -> usize
     ensures { Puts output.old from (numbers (take count words.now)) result output.new }
 {
-    let end = least(count, words.len());
+    let end = count.min(words.len());
     let mut at = from;
-    let mut i = 0;
-    while i < end {
-        at = put_spaced(output, at, words[i] as usize);
-        i += 1;
+    for word in &words[..end] {
+        at = put_spaced(output, at, *word as usize);
     }
     at
 }

@@ -3,18 +3,15 @@
 
 use std::env::{Env, FillError};
 use std::io;
-use telling::Asked;
 
-// What the one argument asks for.
-fn asked_for(rt: &impl Env) -> Asked {
+// The index that the one argument asks for.
+fn asked_for(rt: &impl Env) -> Option<u32> {
     // The program's name comes first.
     let mut text = [0u8; 4096];
-    let Ok(n) = rt.arg(1, &mut text) else {
-        return Asked::Bad;
-    };
+    let n = rt.arg(1, &mut text).ok()?;
     let mut second = [0u8; 1];
     let Err(FillError::NotPresent) = rt.arg(2, &mut second) else {
-        return Asked::Bad;
+        return None;
     };
     telling::read_index(&text[..n])
 }
@@ -49,7 +46,7 @@ fn tell(rt: &HostRuntime, index: u32) -> io::Result<()> {
 }
 
 fn main(rt: HostRuntime) -> io::Result<()> {
-    let Asked::Index(index) = asked_for(&rt) else {
+    let Some(index) = asked_for(&rt) else {
         return rt.write_all(b"give one heap index, in decimal, below 4294967296\n");
     };
     tell(&rt, index)

@@ -8,7 +8,7 @@ pub loop-next-init : goal.loop-next-init
 loop-next-init c = (omega arith, omega arith, walking_start)
 
 pub returns-then-end-at : goal.returns-then-end-at
-returns-then-end-at c = walked-broken c.loop-next.invariant.2 c.loop-next-test.true (λ X q o. omega (arith, o))
+returns-then-end-at c = walked-broken c.loop-next.invariant.2 c.loop-next-test.true (λ o. omega (arith, o))
 
 pub returns-then-met : goal.returns-then-met
 returns-then-met c = search walked-again

@@ -1,52 +1,33 @@
-use Prim.Native.Nat.{◌≤◌, ◌-◌}
-use mathlib.Core.Path.{◌≡◌, sym, ◌∙◌}
+use Prim.Native.Nat.{◌+◌}
+use mathlib.Core.Path.{◌≡◌, ap}
+use mathlib.Core.Logic.{inl, inr}
 use native.Mathlib.Omega.{arith}
+use lib.ListN.{get_or, take, length-take}
+use lib.Dec.{ltb}
 use Rattle.cell.specs.Word.{pick}
+use Rattle.machine.proofs.Tests.{either}
+use Rattle.machine.proofs.Below.{below-le}
 use Rattle.counts.specs.Counts.{marked_in}
-use Rattle.counts.proofs.Counting.{turn-none, turn_more, turn_end, marked-one, unmarked-none}
+use Rattle.counts.proofs.Counting.{turn-none, turn_more, turn_end}
 use Rattle.counts.proofs.count.Goals as goal
-use Rattle.counts.proofs.count.Goals.{After-row_known-1, then-work-x-eq0, else-work-x-eq0}
 
--- the cell's count is that of its mark
-kept-is : (c : After-row_known-1) → c.if-work-x-eq0.kept ≡ pick (marked_in c.args.work.now c.loop-x.x) 1 0
-kept-is c =
-    let t = c.loop-x.invariant.2 in
-    let marks = c.args.work.now in
-    let x = c.loop-x.x in
-    let as-was = t.words.left x (omega arith) in
-    elim c.if-work-x-eq0.branch [
-      | then-work-x-eq0 w ↦ w.kept-is ∙ unmarked-none marks x (sym as-was ∙ w.if-work-x-eq0.true)
-      | else-work-x-eq0 w ↦ w.kept-is ∙ marked-one marks x (λ z. w.if-work-x-eq0.false (as-was ∙ z))
-    ]
+pub loop-word-init : goal.loop-word-init
+loop-word-init c = (omega arith, turn-none _)
 
-kept_small : (c : After-row_known-1) → c.if-work-x-eq0.kept ≤ 1
-kept_small c = elim c.if-work-x-eq0.branch [ then-work-x-eq0 w ↦ omega (arith, w.kept-is) | else-work-x-eq0 w ↦ omega (arith, w.kept-is) ]
-
-pub loop-x-init : goal.loop-x-init
-loop-x-init c = (omega arith, omega arith, turn-none _)
-
-pub offset_bounds-work-x : goal.offset_bounds-work-x
-offset_bounds-work-x c = omega (arith, c.loop-x.invariant.2.words.same)
-
-pub bounds-work-x : goal.bounds-work-x
-bounds-work-x c = omega (arith, c.loop-x.invariant.2.words.same)
-
-pub overflow_add-work : goal.overflow_add-work
-overflow_add-work c = omega (arith, kept_small c)
-
-pub offset_bounds-work-x-in-loop-x : goal.offset_bounds-work-x-in-loop-x
-offset_bounds-work-x-in-loop-x c = omega (arith, c.loop-x.invariant.2.words.same)
-
-pub bounds-work-x-in-loop-x : goal.bounds-work-x-in-loop-x
-bounds-work-x-in-loop-x c = omega (arith, c.loop-x.invariant.2.words.same)
-
-pub overflow_add-d : goal.overflow_add-d
-overflow_add-d c = omega (arith, kept_small c)
-
-pub loop-x-preserved : goal.loop-x-preserved
-loop-x-preserved c = (omega arith, omega (arith, kept_small c), turn_more c.loop-x.invariant.2 (omega arith) _ (kept-is c))
+pub loop-word-preserved : goal.loop-word-preserved
+loop-word-preserved c =
+    let l = c.loop-word in
+    let t = l.invariant.1 in
+    let marks = take c.args.top c.args.work.now in
+    let x = l.word-index in
+    let as-was : ltb 0 (get_or l.word-items x 0) ≡ marked_in marks x = ap (ltb 0) (t.words.left x (omega arith)) in
+    let kept : c.from-kept.result ≡ pick (marked_in marks x) 1 0 =
+    elim (either (marked_in marks x)) [
+      | inl e ↦ rw e (rw (as-was, e) at c.from-kept.ensures)
+      | inr e ↦ rw e (rw (as-was, e) at c.from-kept.ensures)
+    ] in
+    let more = turn_more t (omega arith) _ kept in
+    (omega (arith, more.total, below-le (marked_in marks) (x + 1)), more)
 
 pub returns : goal.returns
-returns c =
-    let e : c.loop-x.x ≡ c.args.top = omega arith in
-    turn_end (rw e at c.loop-x.invariant.2) (omega arith)
+returns c = let e : c.loop-word.word-index ≡ c.args.top = omega (arith, length-take c.args.top c.args.work.now) in turn_end (rw e at c.loop-word.invariant.1) (omega arith)

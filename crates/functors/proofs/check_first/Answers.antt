@@ -1,29 +1,23 @@
 -- `functors::check_first` meets its contract: no STRUCT is no refusal, else what the flags tell is searched and cleared. Assumes nothing.
-use native.Mathlib.Omega.{arith}
+use mathlib.Core.Path.{◌≡◌}
+use lib.ListN.{get_or, replicate}
+use Rattle.std.proofs.Common.{rules}
 use Rattle.machine.specs.Layout.{field}
-use Rattle.functors.proofs.Checking.{contained-at, nothing-found, tallyable, searchable, clearable, all_found}
+use Rattle.functors.proofs.Checking.{contained-at, nothing-found, searchable, all_found}
 use Rattle.functors.proofs.check_first.Goals as goal
 
-pub flag_all-structures-requires : goal.flag_all-structures-requires
-unfolding field
-flag_all-structures-requires c = let k = c.requires in contained-at k k.right
+pub flag_all-requires : goal.flag_all-requires
+flag_all-requires c = let k = c.requires in contained-at k k.right
 
-pub returns-then-structures-eq0 : goal.returns-then-structures-eq0
-unfolding field
-returns-then-structures-eq0 c = nothing-found c.requires c.flag_all-structures.ensures c.if-structures-eq0.true
+pub returns-then-flag_all-eq0 : goal.returns-then-flag_all-eq0
+returns-then-flag_all-eq0 c = nothing-found c.requires c.flag_all.ensures c.if-flag_all-eq0.true
 
-pub tally-total-requires : goal.tally-total-requires
+pub invariant_of-find : goal.invariant_of-find
 unfolding field
-tally-total-requires c = tallyable c.requires c.flag_all-structures.ensures
-
-pub find-checked-requires : goal.find-checked-requires
-unfolding field
-find-checked-requires c = searchable c.requires c.flag_all-structures.ensures c.tally-total.ensures
-
-pub clear-requires : goal.clear-requires
-unfolding field
-clear-requires c = (omega arith, clearable c.requires c.flag_all-structures.ensures c.tally-total.ensures)
+invariant_of-find c = record { searchable = searchable c.requires c.flag_all.ensures c.tally-total.ensures }
 
 pub returns : goal.returns
 unfolding field
-returns c = all_found c.requires c.flag_all-structures.ensures c.tally-total.ensures c.find-checked.ensures c.clear.ensures
+returns c =
+    let blank : c.fill.new.self ≡ replicate (get_or c.args.view.control.now 5 0) 0 = search rules in
+    all_found c.requires c.flag_all.ensures c.tally-total.ensures c.find-checked.ensures (rw blank)

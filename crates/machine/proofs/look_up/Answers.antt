@@ -4,7 +4,7 @@ use Rattle.std.proofs.Common.{◌-◌, ◌<◌, ◌≤◌, length, arith}
 use borrow.Author.Tests.{lt-ltb, le-ltb}
 use borrow.Author.Rules.{part_to_end}
 use Rattle.cell.specs.Word.{stack_base}
-use Rattle.machine.specs.LookUp.{names_heap, names_stack, part_at, start_at, LooksUp}
+use Rattle.machine.specs.LookUp.{names_heap, names_stack, part_at, start_at}
 use Rattle.machine.proofs.look_up.Goals as goal
 
 pub returns-then-at-heap : goal.returns-then-at-heap

@@ -16,20 +16,11 @@ on-top c = top_in _ _ _ c.loop-t.invariant.0.ready c.loop-t-test.true
 pub loop-t-init : goal.loop-t-init
 loop-t-init c = (search start, search rules)
 
-pub overflow_cast-x : goal.overflow_cast-x
-overflow_cast-x c = omega (arith, on-top c)
-
-pub offset_bounds-marks-x : goal.offset_bounds-marks-x
-offset_bounds-marks-x c = omega (arith, on-top c)
-
 pub bounds-marks-x : goal.bounds-marks-x
 bounds-marks-x c = (on-top (goal.at.bounds-marks-x c).In-loop-t).0
 
 pub overflow_sub-below : goal.overflow_sub-below
 overflow_sub-below c = (on-top (goal.at.overflow_sub-below c).In-loop-t).1
-
-pub offset_bounds-heap-x : goal.offset_bounds-heap-x
-offset_bounds-heap-x c = omega (arith, on-top (goal.at.offset_bounds-heap-x c).In-loop-t)
 
 pub bounds-heap-x : goal.bounds-heap-x
 bounds-heap-x c = omega (arith, on-top (goal.at.bounds-heap-x c).In-loop-t)

@@ -1,5 +1,4 @@
 -- `drain` meets its contract. The loop's invariant is `Draining`; the measure counts the cells that are not looked into yet. Assumes nothing.
-use Prim.Native.Nat.{◌-◌}
 use lib.ListN.{length}
 use Rattle.mark.specs.Whole.{Passable, CellsBelow}
 use Rattle.mark.proofs.Drains.{Draining, left}

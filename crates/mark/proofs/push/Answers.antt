@@ -8,10 +8,10 @@ use Rattle.mark.proofs.push.Goals as goal
 pub returns-then-marks-x-ne0 : goal.returns-then-marks-x-ne0
 returns-then-marks-x-ne0 c = pushed-old _ _ _ (omega arith)
 
-pub returns-then-tag-eq-CONST : goal.returns-then-tag-eq-CONST
-returns-then-tag-eq-CONST c =
+pub returns-in-Const : goal.returns-in-Const
+returns-in-Const c =
     let a = c.args in
-    pushed-leaf _ _ _ (omega arith) (omega arith) (const-refers-nothing _ (get_or a.heap.now a.x 0) (omega arith))
+    pushed-leaf _ _ _ (omega arith) (omega arith) (const-refers-nothing _ (get_or a.heap.now a.x 0) (omega (arith, c.in-Const.ensures)))
 
-pub returns : goal.returns
-returns c = pushed-new _ _ _ (omega arith) (omega arith)
+pub returns-in_default : goal.returns-in_default
+returns-in_default c = pushed-new _ _ _ (omega arith) (omega arith)

@@ -6,7 +6,7 @@ use lib.ListN.{get_or, set, length}
 use borrow.Author.Tests.{eqb-true, eqb-false}
 use Rattle.queue.specs.Filled.{met_bit}
 use Rattle.queue.specs.Entering.{meet, put, old, new}
-use Rattle.queue.proofs.Puts.{fit_word, meet-free, meet-length, place}
+use Rattle.queue.proofs.Puts.{meet-free, meet-length, place}
 use Rattle.queue.proofs.enter.Goals as goal
 use Rattle.queue.proofs.enter.Goals.{Else-is_met}
 
@@ -28,16 +28,8 @@ low c = meet-free c.args.queue.now c.args.tail c.args.x c.requires.1 (free c) (u
 pub returns-then-is_met : goal.returns-then-is_met
 returns-then-is_met c = old (eqb-true _ _ (sym c.is_met.ensures ∙ c.if-is_met.true))
 
-pub overflow_add-queue : goal.overflow_add-queue
-overflow_add-queue c =
-    omega (arith, fit_word _ _ c.requires.0 c.args.x)
-
 pub bounds-queue-tail : goal.bounds-queue-tail
 bounds-queue-tail c = room (goal.at.bounds-queue-tail c).Else-is_met
-
-pub overflow_add-queue-2 : goal.overflow_add-queue-2
-overflow_add-queue-2 c =
-    omega (arith, low (goal.at.overflow_add-queue-2 c).Else-is_met)
 
 pub bounds-queue-tail-2 : goal.bounds-queue-tail-2
 bounds-queue-tail-2 c = room (goal.at.bounds-queue-tail-2 c).Else-is_met

@@ -1,47 +1,41 @@
-use Prim.Native.Nat.{◌+◌, ◌-◌}
-use mathlib.Core.Path.{◌≡◌, refl, sym, ◌∙◌}
+use Prim.Native.Nat.{◌<◌}
+use mathlib.Core.Path.{◌≡◌, sym, ◌∙◌}
 use native.Mathlib.Omega.{arith}
-use lib.Seq.{length-take-le}
-use lib.ListN.{length, get_or, take}
-use Rattle.machine.proofs.Parts.{rest_at}
+use borrow.Author.Rules.{rules}
+use lib.ListN.{length, length-append, get_or}
+use Rattle.std.proofs.lemmas.Slice.Zip.{zip_turn}
 use Rattle.queue.specs.Entering.{none, stack_word}
-use Rattle.queue.proofs.Entering.{readable-after}
-use Rattle.queue.proofs.Below.{stack-cell, stack-nothing, below_more, below-skip}
+use Rattle.queue.proofs.Entering.{all_more, readable-after}
+use Rattle.queue.proofs.Below.{stack-cell, stack-nothing, all-skip}
 use Rattle.queue.proofs.enter_cells.Goals as goal
-use Rattle.queue.proofs.enter_cells.Goals.{In-loop-i, then-work-notes-eq-CELL, else-work-notes-eq-CELL}
+use Rattle.queue.proofs.enter_cells.Goals.{In-Some}
 
--- in a turn: the note that is read is the one at entry, and the first h work words are h words
-noted : (c : In-loop-i) → get_or c.args.work.now (length c.args.heap.now + c.loop-i.i) 0 ≡ get_or c.loop-i.work (length c.args.heap.now + c.loop-i.i) 0
-noted c = sym (rest_at c.args.h _ _ c.loop-i.invariant.1.rest (length c.args.heap.now + c.loop-i.i) (omega arith))
+-- the stack word and the note that a turn reads
+turn : (c : In-Some) → (length c.loop-word.yielded < length c.args.stack.now) × (c.in-Some.word.now ≡ get_or c.args.stack.now (length c.loop-word.yielded) 0) × (c.in-Some.note.now ≡ get_or c.args.notes.now (length c.loop-word.yielded) 0)
+turn c =
+    let start = c.into_iter-word-iterator.result in
+    let z = zip_turn c.args.stack.now c.args.notes.now c.loop-word.yielded start c.loop-word.word-iterator c.next.new.self _ (search rules) (search rules) c.loop-word.yielded_by (c.in-Some.word, c.in-Some.note) c.in-Some.is c.next.ensures.steps in
+    (z.0, z.2 0, z.3 0)
 
-front_length : (c : In-loop-i) → length (take c.args.h c.loop-i.work) ≡ c.args.h
-front_length c = length-take-le _ _ (omega arith)
+picked : (c : In-Some) → c.in-Some.note.now ≡ 1 → stack_word c.args.stack.now c.args.notes.now (length c.loop-word.yielded) ≡ c.in-Some.word.now
+picked c e = let t = turn c in stack-cell _ _ _ (sym t.2 ∙ e) ∙ sym t.1
 
-picked : (c : In-loop-i) → get_or c.loop-i.work (length c.args.heap.now + c.loop-i.i) 0 ≡ 1 → stack_word c.args.stack.now c.args.heap.now c.args.work.now c.loop-i.i ≡ get_or c.args.stack.now c.loop-i.i 0
-picked c e = stack-cell _ _ _ _ ((noted c) ∙ e)
-
-pub loop-i-init : goal.loop-i-init
-loop-i-init c = (omega arith, record { front = none; rest = refl; same = refl })
-
-pub slice_bounds-enter_word-end-then-work-notes-eq-CELL : goal.slice_bounds-enter_word-end-then-work-notes-eq-CELL
-slice_bounds-enter_word-end-then-work-notes-eq-CELL c = sym (front_length (goal.at.slice_bounds-enter_word-end-then-work-notes-eq-CELL c).In-loop-i)
+pub loop-word-init : goal.loop-word-init
+loop-word-init c = none
 
 pub enter_word-t-requires : goal.enter_word-t-requires
 enter_word-t-requires c =
-    let b = readable-after c.requires.readable (omega arith) c.loop-i.invariant.1.front in
-    (b.fit, b.deep, rw (picked (goal.at.enter_word-t-requires c).In-loop-i c.if-work-notes-eq-CELL.true) at (b.within c.loop-i.i (omega arith)))
+    let s = (goal.at.enter_word-t-requires c).In-Some in
+    let t = turn s in
+    let b = readable-after c.requires.readable (omega arith) c.loop-word.invariant in
+    (b.fit, b.deep, rw (picked s c.if-note-eq-CELL.true) at (b.within (length c.loop-word.yielded) t.0))
 
-pub loop-i-preserved : goal.loop-i-preserved
-loop-i-preserved c =
-    let v = c.loop-i.invariant.1 in (
-      omega arith,
-      elim c.if-work-notes-eq-CELL.branch [
-        | then-work-notes-eq-CELL w ↦ rw (w.t-is, w.work-is) (below_more _ v _ (omega arith) (picked (goal.at.loop-i-preserved c).In-loop-i w.if-work-notes-eq-CELL.true) w.enter_word-t.auto.queue w.enter_word-t.ensures)
-        | else-work-notes-eq-CELL w ↦ rw (w.t-is, w.work-is) (below-skip _ v (stack-nothing _ _ _ _ (λ e. w.if-work-notes-eq-CELL.false (sym (noted (goal.at.loop-i-preserved c).In-loop-i) ∙ e))))
-      ],
-    )
+pub loop-word-preserved-then-note-eq-CELL : goal.loop-word-preserved-then-note-eq-CELL
+loop-word-preserved-then-note-eq-CELL c =
+    let s = (goal.at.loop-word-preserved-then-note-eq-CELL c).In-Some in
+    rw length-append (all_more _ _ (picked s c.if-note-eq-CELL.true) c.loop-word.invariant c.enter_word-t.ensures)
 
-pub returns : goal.returns
-returns c =
-    let e : c.loop-i.i ≡ length c.args.stack.now = omega arith in
-    rw e at c.loop-i.invariant.1
+pub loop-word-preserved : goal.loop-word-preserved
+loop-word-preserved c =
+    let t = turn (goal.at.loop-word-preserved c).In-Some in
+    rw length-append (all-skip _ (stack-nothing _ _ _ (λ e. c.if-note-eq-CELL.false (t.2 ∙ e))) c.loop-word.invariant)

@@ -1,10 +1,6 @@
 -- `enter_range` meets its contract. The loop's invariant: the cells from a up to x have joined. Assumes nothing.
-use Prim.Native.Nat.{◌≤◌, ◌-◌}
 use Rattle.queue.specs.Entering.{Entered}
 use Rattle.queue.proofs.enter_range.Given as goal
 
 abbrev pub invariant-loop-x : goal.invariant-loop-x
-invariant-loop-x l = (l.a ≤ l.x) × (l.x ≤ l.z) × Entered l.a l.initial.queue l.tail l.x l.queue l.t
-
-abbrev pub decreases-loop-x : goal.decreases-loop-x
-decreases-loop-x l = l.z - l.x
+invariant-loop-x l = Entered l.a l.initial.queue l.tail l.x l.queue l.t

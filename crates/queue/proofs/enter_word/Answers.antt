@@ -9,10 +9,3 @@ end_of-requires c =
     λ e.
     let x = extent-struct c.args.heap.now c.args.word e in
     omega (arith, c.requires.2 (value_of c.args.word) (omega arith))
-
-pub enter_range-requires : goal.enter_range-requires
-enter_range-requires c =
-    (c.requires.0, omega arith, λ x r. c.requires.2 x (omega arith))
-
-pub returns : goal.returns
-returns c = rw (c.value.ensures, c.end_of.ensures) at c.enter_range.ensures

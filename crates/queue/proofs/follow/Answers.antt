@@ -1,12 +1,11 @@
-use Prim.Native.Nat.{ℕ, ◌<◌, ◌-◌}
+use Prim.Native.Nat.{ℕ, ◌<◌}
 use mathlib.Core.Path.{◌≡◌, ap}
 use mathlib.Core.Logic.{inl, inr}
 use native.Mathlib.Omega.{arith}
 use lib.ListN.{length, get_or}
 use Rattle.mark.specs.Marks.{Within}
 use Rattle.queue.specs.Filled.{entry_of}
-use Rattle.queue.proofs.Puts.{fit_word}
-use Rattle.queue.proofs.Following.{Following, following-start, following-level, following-turn, following-end}
+use Rattle.queue.proofs.Following.{Following, following-level, following-turn, following-end}
 use Rattle.queue.proofs.follow.Goals as goal
 use Rattle.queue.proofs.follow.Goals.{After-entry-x, Joined-i-next, then-i-next, else-i-next}
 
@@ -26,37 +25,10 @@ cell-within c w e = rw e (λ x r. omega (arith, (under-way c).0.same, c.requires
 the_word : (c : After-entry-x) → get_or c.args.heap.now c.entry-x.result 0 ≡ get_or c.args.heap.now (entry_of (get_or c.if-i-next.queue c.loop-i.i 0)) 0
 the_word c = ap (λ (x : ℕ). get_or c.args.heap.now x 0) c.entry-x.ensures
 
-pub loop-i-init : goal.loop-i-init
-loop-i-init c =
-    let p = c.requires in
-    following-start p.0.fit p.1
-
-pub bounds-queue-i : goal.bounds-queue-i
-bounds-queue-i c = let v = c.loop-i.invariant in omega (arith, v.fit.room)
-
-pub overflow_add-queue : goal.overflow_add-queue
-overflow_add-queue c = let d = c.loop-i in omega (arith, fit_word _ _ d.invariant.fit d.i)
-
-pub bounds-queue-i-then-i-next : goal.bounds-queue-i-then-i-next
-bounds-queue-i-then-i-next c = let v = c.loop-i.invariant in omega (arith, v.fit.room)
-
-pub bounds-queue-i-in-loop-i : goal.bounds-queue-i-in-loop-i
-bounds-queue-i-in-loop-i c = let u = (under-way (goal.at.bounds-queue-i-in-loop-i c).Joined-i-next).0 in omega (arith, u.fit.room)
-
-pub offset_bounds-heap-x : goal.offset_bounds-heap-x
-offset_bounds-heap-x c = let l = cell-low (goal.at.offset_bounds-heap-x c).Joined-i-next in omega arith
-
-pub bounds-heap-x : goal.bounds-heap-x
-bounds-heap-x c =
-    omega (arith, cell-low (goal.at.bounds-heap-x c).Joined-i-next, c.requires.0.deep)
-
 pub enter_word-t-requires : goal.enter_word-t-requires
 enter_word-t-requires c =
     let u = (under-way (goal.at.enter_word-t-requires c).Joined-i-next).0 in
     (u.fit, omega (arith, u.same, c.requires.0.deep), cell-within (goal.at.enter_word-t-requires c).Joined-i-next _ (the_word (goal.at.enter_word-t-requires c).After-entry-x))
-
-pub loop-i-smaller : goal.loop-i-smaller
-loop-i-smaller c = let v = c.loop-i.invariant in omega (arith, v.fit.room, v.same)
 
 pub loop-i-preserved : goal.loop-i-preserved
 loop-i-preserved c =

@@ -1,4 +1,5 @@
 use mathlib.Core.Path.{refl}
+use native.Mathlib.Omega.{arith}
 use borrow.Author.Rules.{rules}
 use borrow.Author.Tests.{not-true, not-false}
 use Rattle.replay.proofs.Turning.{replaying-none, replaying-more, replaying-stop, replaying-end}
@@ -8,10 +9,10 @@ pub loop-i-init : goal.loop-i-init
 loop-i-init c = (replaying-none _, refl, refl, refl, refl, refl)
 
 pub returns-then-not-call : goal.returns-then-not-call
-returns-then-not-call c = replaying-stop c.loop-i.invariant.0 c.loop-i-test.true c.call.ensures (search not-true)
+returns-then-not-call c = replaying-stop c.loop-i.invariant.0 (omega arith) c.call.ensures (search not-true)
 
 pub loop-i-preserved : goal.loop-i-preserved
-loop-i-preserved c = (replaying-more c.loop-i.invariant.0 c.loop-i-test.true c.call.ensures (search not-false), search rules, search rules, search rules, search rules, search rules)
+loop-i-preserved c = (replaying-more c.loop-i.invariant.0 (omega arith) c.call.ensures (search not-false), search rules, search rules, search rules, search rules, search rules)
 
 pub returns : goal.returns
-returns c = replaying-end c.loop-i.invariant.0 c.loop-i-test.false
+returns c = replaying-end c.loop-i.invariant.0 (omega arith)

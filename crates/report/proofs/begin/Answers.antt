@@ -9,4 +9,4 @@ use mathlib.Core.Path.{sym, subst}
 use Rattle.report.proofs.begin.Goals as goal
 
 pub returns : goal.returns
-returns c = let e = c.empty-total.ensures in (rw e, subst (λ (t : Tally). Possible (record { files = 0; accepted = 0; start = 0; total = t; refused = replicate numbers 0 })) (sym e) possible-begun)
+returns c = let e = c.empty.ensures in (rw e, subst (λ (t : Tally). Possible (record { files = 0; accepted = 0; start = 0; total = t; refused = replicate numbers 0 })) (sym e) possible-begun)

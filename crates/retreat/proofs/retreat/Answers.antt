@@ -1,10 +1,8 @@
 -- `retreat::retreat` meets its contract: in an accepted image the newest choice point lies inside the stack and its entries can be undone, so
 -- without 8 and 9 undo and copy leave `stepped`. Assumes nothing.
-use Prim.Native.Nat.{ℕ}
-use mathlib.Core.List.{List}
 use mathlib.Core.Path.{refl}
 use native.Mathlib.Omega.{arith}
-use Rattle.machine.specs.Layout.{Image, field}
+use Rattle.machine.specs.Layout.{field}
 use Rattle.machine.specs.Stepped.{newest, undone}
 use Rattle.machine.proofs.Chains.{Bounds}
 use Rattle.machine.proofs.Accepted.{Granted}

@@ -1,11 +1,7 @@
--- `retreat::undo` meets its contract. The loop's invariant is `Undoing`: the entries from a up to i are undone. The measure is what is left
--- up to z. Assumes nothing.
-use Prim.Native.Nat.{◌-◌}
-use Rattle.retreat.proofs.Undoing.{Undoing}
+-- `retreat::undo` meets its contract. The loop's invariant: the entries passed are undone. Assumes nothing.
+use Prim.Native.Nat.{◌+◌}
+use Rattle.retreat.specs.Undo.{Undid}
 use Rattle.retreat.proofs.undo.Given as goal
 
-abbrev pub invariant-loop-i : goal.invariant-loop-i
-invariant-loop-i l = Undoing l.trail l.a l.z l.initial.heap l.initial.stack l.heap l.stack l.i
-
-abbrev pub decreases-loop-i : goal.decreases-loop-i
-decreases-loop-i l = l.z - l.i
+abbrev pub invariant-loop-entry : goal.invariant-loop-entry
+invariant-loop-entry l = Undid l.trail l.a (l.a + l.entry-index) l.initial.heap l.initial.stack l.heap l.stack

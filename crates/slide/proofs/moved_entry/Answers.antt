@@ -6,11 +6,8 @@ use Rattle.counts.proofs.Counting.{half}
 use Rattle.machine.proofs.Words.{entry-low, entry-high}
 use Rattle.slide.proofs.moved_entry.Goals as goal
 
-pub bounds-work-x : goal.bounds-work-x
-bounds-work-x c = c.requires (omega arith)
-
 pub returns-then-entry-lt-STACK_BASE : goal.returns-then-entry-lt-STACK_BASE
-returns-then-entry-lt-STACK_BASE c = record { exact = λ cells top k b. half k _ (b (omega arith)) ∙ sym (entry-low _ _ (omega arith)) }
+returns-then-entry-lt-STACK_BASE c = λ cells k. half k _ (c.requires (omega arith)) ∙ sym (entry-low _ _ (omega arith))
 
-pub returns : goal.returns
-returns c = record { exact = λ cells top k b. sym (entry-high _ _ (omega arith)) }
+pub returns-else-entry-lt-STACK_BASE : goal.returns-else-entry-lt-STACK_BASE
+returns-else-entry-lt-STACK_BASE c = λ cells k. sym (entry-high _ _ (omega arith))

@@ -1,13 +1,12 @@
 -- `tally::figures` meets its contract: the parts require what stands after a collection, and give its figures (`Figuring`). Assumes
 -- nothing.
-use mathlib.Core.Path.{◌∙◌}
 use native.Mathlib.Omega.{arith}
 use Rattle.machine.specs.Layout.{field}
-use Rattle.tally.proofs.Figuring.{control-fits, heap-fits, keepable, own-chained, all_pointed, blank-memo, cleared, words-fit, none_yet, figures-are}
+use Rattle.tally.proofs.Figuring.{control-fits, heap-fits, keepable, own-chained, all_pointed, blank-memo, cleared, heap-words, none_yet, figures-are}
 use Rattle.tally.proofs.figures.Goals as goal
 
-pub bounds-control-5 : goal.bounds-control-5
-bounds-control-5 c = omega (arith, control-fits c.requires)
+pub bounds-view-5 : goal.bounds-view-5
+bounds-view-5 c = omega (arith, control-fits c.requires)
 
 pub keep_heap-kept-requires : goal.keep_heap-kept-requires
 unfolding field
@@ -24,8 +23,11 @@ count_chains-tally-requires c = let a = c.requires in
       points_value = none_yet a c.keep_heap-kept.ensures c.trail.ensures;
     }
 
-pub overflow_add-notes : goal.overflow_add-notes
-overflow_add-notes c = let a = c.requires in omega (arith, words-fit a)
+pub slice_bounds-notes-count : goal.slice_bounds-notes-count
+slice_bounds-notes-count c = omega (arith, heap-words c.requires)
+
+pub slice_bounds-notes-start : goal.slice_bounds-notes-start
+slice_bounds-notes-start c = omega (arith, heap-words c.requires)
 
 pub returns : goal.returns
 unfolding field
@@ -33,5 +35,5 @@ returns c =
     let n = c.count_chains-tally.ensures in
     record {
       value = λ a. figures-are a c.keep_heap-kept.ensures c.trail.ensures n;
-      work_unchanged = c.clear.ensures ∙ cleared c.requires n.points.noted;
+      work_unchanged = cleared c.requires n.points.noted c.clear.ensures;
     }

@@ -1,17 +1,7 @@
-use mathlib.Core.Path.{refl}
-use native.Mathlib.Omega.{arith}
-use Rattle.machine.proofs.Tests.{true-false}
-use Rattle.cells.proofs.Seeking.{clean-none, clean-more, clean_end}
+-- `cells::good::stack_good` meets its contract: the test is asked of each stack word. Assumes nothing.
+use borrow.Author.Rules.{rules}
+use Rattle.cells.proofs.Ranges.{every-all}
 use Rattle.cells.proofs.good.stack_good.Goals as goal
 
-pub loop-i-init : goal.loop-i-init
-loop-i-init c = (omega arith, clean-none _ _)
-
-pub returns-then-not-cell_good : goal.returns-then-not-cell_good
-returns-then-not-cell_good c = λ e. true-false e refl
-
-pub loop-i-preserved : goal.loop-i-preserved
-loop-i-preserved c = let good = c.cell_good.ensures c.if-not-cell_good.false in (omega arith, clean-more c.loop-i.invariant.1 good.0 good.1)
-
 pub returns : goal.returns
-returns c = λ e. clean_end c.loop-i.invariant.1 (omega arith)
+returns c = every-all _ _ (cc) _ _ _ c.all.ensures.ran (λ x b q k. search rules)

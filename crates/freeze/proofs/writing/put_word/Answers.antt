@@ -1,19 +1,10 @@
--- `freeze::writing::put_word` meets its contract: four stores are a run of four bytes.
+-- `freeze::writing::put_word` meets its contract: what was copied is the run of the word's four bytes.
 -- Assumes nothing.
-use mathlib.Core.Path.{refl}
+use mathlib.Core.Path.{◌∙◌}
 use native.Mathlib.Omega.{arith}
-use native.Mathlib.Numerals.{add-one, add-two, add-three}
-use lib.ListN.{length-set}
+use Rattle.freeze.specs.Freeze.{bytes_of}
+use Rattle.freeze.proofs.WriteLaws.{writes-copied}
 use Rattle.freeze.proofs.writing.put_word.Goals as goal
 
-pub bounds-output-at-2 : goal.bounds-output-at-2
-bounds-output-at-2 c = simp length-set (omega arith)
-
-pub bounds-output-at-3 : goal.bounds-output-at-3
-bounds-output-at-3 c = simp length-set (omega arith)
-
-pub bounds-output-at-4 : goal.bounds-output-at-4
-bounds-output-at-4 c = simp length-set (omega arith)
-
 pub returns : goal.returns
-returns c = record { next = refl; written = rw (add-one, add-two, add-three) }
+returns c = writes-copied _ _ _ (bytes_of c.args.word) _ (c.copy_from_slice.ensures.after ∙ c.to_le_bytes.ensures) (omega arith) (omega arith)

@@ -1,11 +1,8 @@
--- `freeze::writing::write_area` meets its contract: the loop's invariant says that the records of the words so far are written (`Writing`). The measure is what is left of the count.
+-- `freeze::writing::write_area` meets its contract: the loop's invariant says that the records of the words so far are written (`Writing`).
 -- Assumes nothing.
-use Prim.Native.Nat.{◌-◌}
+use lib.ListN.{take}
 use Rattle.freeze.proofs.WriteLaws.{Writing}
 use Rattle.freeze.proofs.writing.write_area.Given as goal
 
-abbrev pub invariant-loop-j : goal.invariant-loop-j
-invariant-loop-j l = Writing l.area l.count l.kind l.initial.output l.from l.output l.at l.j
-
-abbrev pub decreases-loop-j : goal.decreases-loop-j
-decreases-loop-j l = l.count - l.j
+abbrev pub invariant-loop-word : goal.invariant-loop-word
+invariant-loop-word l = Writing (take l.count l.area) l.kind l.initial.output l.from l.output l.at l.word-index

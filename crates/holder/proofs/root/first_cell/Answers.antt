@@ -1,19 +1,12 @@
-use mathlib.Core.Path.{sym, ◌∙◌}
-use native.Mathlib.Omega.{arith}
-use Rattle.cells.proofs.Seeking.{seek-none, seek-more, seek_found, seek-end}
+-- `holder::root::first_cell` meets its contract: the first cell of the stack that refers to x is looked for over the range. Assumes nothing.
+use Rattle.std.proofs.Common.{◌≡◌, true, false, rules, tests}
+use Rattle.std.proofs.lemmas.Iterator.{first_from_Range}
+use Rattle.holder.specs.Tracing.{cell_refers}
+use Rattle.holder.proofs.Ranges.{lowest-range}
 use Rattle.holder.proofs.root.first_cell.Goals as goal
 
-pub loop-i-init : goal.loop-i-init
-loop-i-init c = seek-none _ _
-
-pub cell_refers-requires : goal.cell_refers-requires
-cell_refers-requires c = (omega arith, c.requires)
-
-pub returns-then-cell_refers : goal.returns-then-cell_refers
-returns-then-cell_refers c = seek_found c.loop-i.invariant (omega arith) (sym c.cell_refers.ensures ∙ c.if-cell_refers.true)
-
-pub loop-i-preserved : goal.loop-i-preserved
-loop-i-preserved c = seek-more c.loop-i.invariant (omega arith) (sym c.cell_refers.ensures ∙ c.if-cell_refers.false)
-
 pub returns : goal.returns
-returns c = seek-end c.loop-i.invariant (omega arith)
+returns c =
+    let a = c.args in
+    let p = cell_refers a.stack.now a.heap.now a.work.now a.x in
+    lowest-range p _ _ (first_from_Range _ _ _ _ (λ i. p i ≡ true) (λ i. p i ≡ false) c.find.ensures.ran (λ x q k. search (rules, tests)) (λ x q k. search (rules, tests)))

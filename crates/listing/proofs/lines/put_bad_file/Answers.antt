@@ -7,4 +7,4 @@ use Rattle.listing.proofs.lines.put_bad_file.Goals as goal
 
 pub returns : goal.returns
 unfolding file_verdict_text
-returns c = short-of file_verdict_text (sym c.fault_of-fault.ensures) c.put_file.ensures
+returns c = short-of file_verdict_text (sym c.fault-fault.ensures) c.put_file.ensures

@@ -28,4 +28,4 @@ pub returns : goal.returns
 returns c =
     let inside : within (counts_in c.args.window.now) c.args.room ≡ true = sym (c.within.ensures ∙ ap (λ (n : AreaCounts). within n c.args.room) c.counts_in-n.ensures) ∙ c.if-not-within.false in
     let long : c.file_length.result ≡ past_end (counts_in c.args.window.now) = c.file_length.ensures ∙ ap past_end c.counts_in-n.ensures in
-    (c.least.ensures ∙ first-whole c.args.room c.args.window.now _ long inside, omega (arith, c.least.ensures))
+    (c.min.ensures ∙ first-whole c.args.room c.args.window.now _ long inside, omega (arith, c.min.ensures))

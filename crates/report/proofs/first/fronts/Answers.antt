@@ -4,8 +4,8 @@ use Rattle.report.specs.Parts.{Fronts}
 use Rattle.freeze.specs.Thaw.{counts_in}
 use Rattle.freeze.specs.declared.AreaCounts.{AreaCounts}
 use Rattle.machine.specs.Layout.{fixed}
-use mathlib.Core.Path.{◌≡◌, sym, ap, ◌∙◌, subst}
-use Prim.Native.Nat.{min, max}
+use mathlib.Core.Path.{◌≡◌, sym, ap, subst}
+use Prim.Native.Nat.{max}
 use Rattle.report.proofs.Fronts.{counted, fronts-short, fronts-counted}
 use Rattle.report.proofs.Firsts.{size_is}
 use native.Mathlib.Omega.{arith}
@@ -16,10 +16,6 @@ returns-then-file-record_size c = fronts-short c.args.room c.requires c.args.fil
 
 pub returns : goal.returns
 returns c =
-    let n : c.counts_in-n.result ≡ counts_in c.args.file.now = c.counts_in-n.ensures in
-    let a : c.least.result ≡ (counted c.args.room c.requires c.args.file.now).control = c.least.ensures ∙ ap (min c.args.room.control) (c.greatest.ensures ∙ ap (λ (m : AreaCounts). max fixed m.control) n) in
-    let b : c.least-2.result ≡ (counted c.args.room c.requires c.args.file.now).stack = c.least-2.ensures ∙ ap (λ (m : AreaCounts). min c.args.room.stack m.stack) n in
-    let h : c.least-3.result ≡ (counted c.args.room c.requires c.args.file.now).heap = c.least-3.ensures ∙ ap (λ (m : AreaCounts). min c.args.room.heap m.heap) n in
-    let t : c.least-4.result ≡ (counted c.args.room c.requires c.args.file.now).trail = c.least-4.ensures ∙ ap (λ (m : AreaCounts). min c.args.room.trail m.trail) n in
-    subst (Fronts c.args.room c.args.file.now) (λ i. record { control = sym a i; stack = sym b i; heap = sym h i; trail = sym t i })
-    (fronts-counted c.args.room c.requires c.args.file.now)
+    let control : c.max.result ≡ max fixed (counts_in c.args.file.now).control = omega (arith, c.max.ensures, ap (λ (n : AreaCounts). n.control) c.counts_in-n.ensures) in
+    let e : c.least.result ≡ counted c.args.room c.requires c.args.file.now = rw (c.least.ensures, control, c.counts_in-n.ensures) in
+    subst (Fronts c.args.room c.args.file.now) (sym e) (fronts-counted c.args.room c.requires c.args.file.now)

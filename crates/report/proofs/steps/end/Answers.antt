@@ -9,7 +9,5 @@ pub returns : goal.returns
 returns c =
     record {
       goes = refl;
-      uses = refl;
-      month-is = refl;
-      puts = short-within (omega arith) (short-join c.put_closing-end_at.ensures (short-exact c.put_bytes-next.ensures));
+      puts = short-within (omega arith) (short-join c.put_closing-end_at.ensures (short-exact c.put_bytes.ensures));
     }

@@ -6,18 +6,16 @@ use mathlib.Core.Path.{refl, sym}
 use Rattle.report.proofs.steps.stop.Goals as goal
 
 pub overflow_add-offset : goal.overflow_add-offset
-overflow_add-offset c = record { fits = offset-fits c.requires.possible c.fault_of-fault.result.offset (c.requires.near _ _ (sym c.fault_of-fault.ensures)) }
+overflow_add-offset c = record { fits = offset-fits c.requires.possible c.fault-fault.result.offset (c.requires.near _ _ (sym c.fault-fault.ensures)) }
 
 pub returns : goal.returns
 returns c =
     record {
-      number = c.fault_of-fault.result.number;
-      offset = c.fault_of-fault.result.offset;
-      verdict-is = sym c.fault_of-fault.ensures;
+      number = c.fault-fault.result.number;
+      offset = c.fault-fault.result.offset;
+      verdict-is = sym c.fault-fault.ensures;
       answer = record {
         goes = refl;
-        uses = refl;
-        month-is = refl;
-        puts = short-join c.put_closing-fault_at.ensures c.put_file-next.ensures;
+        puts = short-join c.put_closing-fault_at.ensures c.put_file.ensures;
       };
     }

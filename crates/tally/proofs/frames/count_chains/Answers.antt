@@ -1,19 +1,17 @@
 -- `tally::frames::count_chains` meets its contract: the control area's chain, and then the choice points. Assumes nothing.
-use mathlib.Core.Path.{ap, ◌∙◌}
-use native.Mathlib.Omega.{arith}
+use Rattle.std.proofs.Common.{rules}
 use Rattle.machine.specs.Layout.{field}
-use Rattle.tally.specs.declared.Tally.{Tally}
 use Rattle.tally.proofs.Points.{chains-counted}
 use Rattle.tally.proofs.frames.count_chains.Goals as goal
 
-pub depth-frames-requires : goal.depth-frames-requires
+pub depth-own-requires : goal.depth-own-requires
 unfolding field
-depth-frames-requires c = let q = c.requires in record { chained = q.chained; memo = q.memo }
+depth-own-requires c = c.requires.chained
 
-pub count_points-requires : goal.count_points-requires
+pub count_points-requires-clause-pointed : goal.count_points-requires-clause-pointed
 unfolding field
-count_points-requires c = let q = c.requires in record { pointed = q.pointed; memo = c.depth-frames.ensures.noted.memo; points_value = ap (λ (t : Tally). t.points) c.chain.ensures ∙ omega (arith, q.points_value) }
+count_points-requires-clause-pointed c = rw c.depth-own.ensures.same_stack c.requires.pointed
 
 pub returns : goal.returns
 unfolding field
-returns c = chains-counted c.depth-frames.ensures c.chain.ensures c.count_points.ensures
+returns c = search (rules, chains-counted)

@@ -1,25 +1,26 @@
-use mathlib.Core.Path.{◌≡◌, sym, ap, ◌∙◌}
-use native.Mathlib.Omega.{arith}
+use Rattle.std.proofs.Common.{sym, ap, ◌∙◌}
 use Rattle.tally.specs.Parts.{kept_tally}
-use Rattle.tally.proofs.Tagged.{keep-none, keep-next, keep-room, keep_one}
+use Rattle.tally.specs.Totals.{with_kept}
+use Rattle.tally.proofs.Tagged.{front-below, front-word, front-end, keep-none, keep-next, keep-room, keep_one}
 use Rattle.tally.proofs.heaps.keep_heap.Goals as goal
 
-pub loop-x-init : goal.loop-x-init
-loop-x-init c = (omega arith, c.requires.count_in_bounds, c.requires.keepable, sym (keep-none _ _))
+pub loop-word-init : goal.loop-word-init
+loop-word-init c = sym (keep-none _ _)
 
 pub keep-tally-requires : goal.keep-tally-requires
 keep-tally-requires c =
-    let d = c.loop-x in
-    let k = d.invariant.2 in
-    let l = c.loop-x-test.true in
-    record { room = λ tag. rw d.invariant.3 (keep-room _ _ _ k d.x l tag); tag_bound = λ tag. rw d.invariant.3 (keep_one _ _ _ k d.x l tag) }
+    let d = c.loop-word in
+    let k = c.requires.keepable in
+    let l = front-below _ _ c.requires.count_in_bounds d.word-index c.loop-word-test.true in
+    let word = front-word _ _ c.requires.count_in_bounds d.word-index c.loop-word-test.true in
+    record { room = λ tag. rw d.invariant (keep-room _ _ _ k d.word-index l tag); tag_bound = λ tag. rw (d.invariant, word) (keep_one _ _ _ k d.word-index l tag) }
 
-pub loop-x-preserved : goal.loop-x-preserved
-loop-x-preserved c =
-    (omega arith, c.loop-x.invariant.1, c.loop-x.invariant.2, keep-next c.args.heap.now c.args.read c.loop-x.x c.loop-x.invariant.3 c.keep-tally.ensures)
+pub loop-word-preserved : goal.loop-word-preserved
+loop-word-preserved c =
+    let d = c.loop-word in
+    keep-next _ _ d.word-index d.invariant (c.keep-tally.ensures ∙ ap (with_kept d.tally) (front-word _ _ c.requires.count_in_bounds d.word-index c.loop-word-test.true))
 
 pub returns : goal.returns
 returns c =
-    let d = c.loop-x in
-    let e : d.x ≡ c.args.count = omega arith in
-    d.invariant.3 ∙ ap (kept_tally _ _) e
+    let d = c.loop-word in
+    d.invariant ∙ ap (kept_tally _ _) (front-end _ _ c.requires.count_in_bounds d.word-index d.auto.word-index-end c.loop-word-test.false)

@@ -10,5 +10,5 @@ pub returns : goal.returns
 unfolding cell_line
 returns c =
     puts-join c.put_number-tag_at.ensures
-    (puts-join (puts_of tag_name (sym c.tag.ensures) c.put_tag-value_at.ensures)
+    (puts-join (puts_of tag_name (sym c.of.ensures) c.put_tag-value_at.ensures)
     (puts-join (puts_of spaced (sym c.value.ensures) c.put_spaced-end.ensures.puts) c.put_byte.ensures))

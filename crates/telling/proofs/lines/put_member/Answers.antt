@@ -1,22 +1,24 @@
--- `telling::lines::put_member` meets its contract: the text of each kind of owner, by the cases.
--- Assumes nothing.
-use Prim.Native.Nat.{◌≤◌}
-use mathlib.Core.Path.{subst}
-use Rattle.text.proofs.Puttings.{short-of}
-use Rattle.telling.specs.declared.owners.Owner.{Owner}
-use Rattle.telling.specs.Parts.{own_text, cells_from}
+-- `telling::lines::put_member` meets its contract: the text of each kind of owner, by the cases. Assumes nothing.
+use Prim.Native.Nat.{◌+◌, ◌-◌}
+use mathlib.Core.Path.{◌≡◌}
+use mathlib.Core.List.{append_assoc}
+use native.Mathlib.Omega.{arith}
+use Rattle.machine.specs.Layout.{fixed, frame_fixed}
+use Rattle.text.proofs.Puttings.{short-within, short-join}
+use Rattle.telling.specs.Text.{member_text}
+use Rattle.telling.specs.Parts.{own_text}
 use Rattle.telling.proofs.lines.put_member.Goals as goal
 
-pub put_frame_cell-requires : goal.put_frame_cell-requires
-put_frame_cell-requires c = subst (λ (o : Owner). cells_from o ≤ c.args.i) c.in-Frame.is c.requires
-
-pub put_saved_argument-requires : goal.put_saved_argument-requires
-put_saved_argument-requires c = subst (λ (o : Owner). cells_from o ≤ c.args.i) c.in-Point.is c.requires
-
 pub returns-in-Frame : goal.returns-in-Frame
-unfolding own_text
-returns-in-Frame c = short-of (own_text c.args.i) c.in-Frame.is c.put_frame_cell.ensures
+unfolding own_text member_text
+returns-in-Frame c =
+    let low = rw c.in-Frame.is at c.requires in
+    let n : 1 + c.args.i - (c.in-Frame.e + frame_fixed) ≡ c.args.i - (c.in-Frame.e + frame_fixed) + 1 = omega arith in
+    rw (c.in-Frame.is, n) (short-within (omega arith) (simp append_assoc at (short-join c.put_numbered-e_at.ensures c.put_spaced.ensures)))
 
 pub returns-in-Point : goal.returns-in-Point
-unfolding own_text
-returns-in-Point c = short-of (own_text c.args.i) c.in-Point.is c.put_saved_argument.ensures
+unfolding own_text member_text
+returns-in-Point c =
+    let low = rw c.in-Point.is at c.requires in
+    let n : 1 + c.args.i - (c.in-Point.b + fixed) ≡ c.args.i - (c.in-Point.b + fixed) + 1 = omega arith in
+    rw (c.in-Point.is, n) (short-within (omega arith) (simp append_assoc at (short-join c.put_numbered-b_at.ensures c.put_spaced-in-Point.ensures)))

@@ -1,20 +1,31 @@
 -- `telling::owners::owner_of` meets its contract: the walk notes every role, and the notes show the owner that the text speaks of (`Rooting`).
 -- Assumes nothing.
 use native.Mathlib.Omega.{arith}
-use Rattle.telling.proofs.Rooting.{rooted-blank, walked-cleared, root-owned, root-owns}
+use lib.ListN.{length}
+use Rattle.std.proofs.lemmas.List.{take_rest}
+use Rattle.telling.proofs.Rooting.{rooted-blank, walk-ends, walked-cleared, root-owned, root-owns}
 use Rattle.telling.proofs.owners.owner_of.Goals as goal
 
 pub walk-requires : goal.walk-requires
 walk-requires c = rooted-blank c.requires
 
-pub noted_owner-owner-requires : goal.noted_owner-owner-requires
-noted_owner-owner-requires c = let a = c.requires in root-owned a (c.walk.ensures a.image a.same_control a.same_stack)
+pub unwrap-requires : goal.unwrap-requires
+unwrap-requires c = walk-ends c.requires _ c.walk.ensures
 
-pub overflow_add-notes : goal.overflow_add-notes
-overflow_add-notes c = omega (arith, (rooted-blank c.requires).room)
+pub slice_bounds-noted_owner-start : goal.slice_bounds-noted_owner-start
+slice_bounds-noted_owner-start c = omega (arith, (rooted-blank c.requires).room, c.walk.ensures.same)
+
+pub slice_bounds-noted_owner-count : goal.slice_bounds-noted_owner-count
+slice_bounds-noted_owner-count c = omega (arith, (rooted-blank c.requires).room, c.walk.ensures.same)
+
+pub noted_owner-owner-requires : goal.noted_owner-owner-requires
+noted_owner-owner-requires c = rw (take_rest c.walk.new.work (length c.args.view.heap.now)) (root-owned c.requires (rw c.unwrap.ensures at c.walk.ensures))
 
 pub clear-requires : goal.clear-requires
-clear-requires c = let a = c.requires in omega (arith, (rooted-blank a).room, (c.walk.ensures a.image a.same_control a.same_stack).same)
+clear-requires c = omega (arith, (rooted-blank c.requires).room, c.walk.ensures.same)
 
-pub returns : goal.returns
-returns c = record { owns = λ a. root-owns a (c.walk.ensures a.image a.same_control a.same_stack) c.noted_owner-owner.ensures; work_unchanged = let a = c.requires in walked-cleared a (c.walk.ensures a.image a.same_control a.same_stack) _ c.clear.ensures }
+pub returns-clause-owns : goal.returns-clause-owns
+returns-clause-owns c = root-owns c.requires (rw c.unwrap.ensures at c.walk.ensures) (rw (take_rest c.walk.new.work (length c.args.view.heap.now)) at c.noted_owner-owner.ensures)
+
+pub returns-clause-work_unchanged : goal.returns-clause-work_unchanged
+returns-clause-work_unchanged c = walked-cleared c.requires (rw c.unwrap.ensures at c.walk.ensures) _ c.clear.ensures
