@@ -14,16 +14,16 @@ use Rattle.machine.specs.declared.Area.TheVariants.{Stack}
 use Rattle.machine.specs.declared.Place.{Place}
 use Rattle.machine.specs.declared.Refusal.{Refusal}
 use Rattle.machine.specs.declared.Refusal.TheVariants.{Sizes, Registers, Chain, Roles}
-use Rattle.machine.specs.Layout.{Image, none}
+use Rattle.machine.specs.Layout.{Image}
 use Rattle.machine.specs.Chains.{whole, walk, fault_of}
 use Rattle.machine.specs.Roles.{Role, cell, CL, CE, own, code_of, is_cell, is_field, conflict, note_at}
-use Rattle.machine.specs.Refusals.{nowhere, in_area, refused, first, scan, first_of, work_words, enough, fits, chain_check, cell_checks, entry_checks, first_checks, image_checks, verdict}
+use Rattle.machine.specs.Refusals.{nowhere, in_area, refused, scan, first_of, work_words, enough, fits, chain_check, cell_checks, entry_checks, first_checks, image_checks, verdict}
 use Rattle.machine.specs.Answers.{verdict_of, work_after}
 use Rattle.machine.proofs.Tests.{same_bool}
 use Rattle.machine.proofs.Chains.{role-low}
 use Rattle.machine.proofs.Walks.{whole-linked}
 use Rattle.machine.proofs.Roles.{has-is, is-has, field-iff}
-use Rattle.machine.proofs.Firsts.{first-same, first-before, first-skips, passes-gate, refuses-gate, refused-not, scan-passes, scan-first, first-given}
+use Rattle.machine.proofs.Firsts.{first-skips, passes-gate, refuses-gate, refused-not, first-given}
 use Rattle.machine.specs.Lowest.{Lowest}
 use Rattle.machine.proofs.Lowest.{found, scan-lowest}
 use Rattle.machine.proofs.Checks.{enough-iff, fits_iff}

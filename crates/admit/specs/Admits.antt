@@ -2,8 +2,8 @@
 -- for each heap cell and its role's number for each stack word. Below it, what its parts promise. Assumes nothing.
 use Rattle.machine.specs.declared.Refusal.{Refusal}
 use Rattle.std.specs.Prelude.{Result}
-use Rattle.std.specs.Prelude.{ℕ, ◌+◌, ◌≤◌, ◌<◌, ◌≡◌, ◌≢◌, Bool, ◌&&◌, List, [], length, get_or, drop, leb}
-use Rattle.machine.specs.Layout.{Image, fixed, heap_most, stack_most, trail_most, arguments_most}
+use Rattle.std.specs.Prelude.{ℕ, ◌≤◌, ◌<◌, ◌≡◌, ◌≢◌, List, [], length, get_or, drop}
+use Rattle.machine.specs.Layout.{Image}
 use Rattle.machine.specs.Refusals.{accepted, work_words, first_of, cell_checks, entry_checks, first_checks, image_checks, verdict}
 use Rattle.machine.specs.Answers.{work_after}
 use Rattle.machine.proofs.Accepted.{Sizes, Fits}

@@ -41,9 +41,10 @@ fn check_noted(view: View<'_>, work: &mut [u32]) -> Result<(), Refusal>
     requires { WordsNoted (seen view) work.old }
     ensures { ChecksNoted (seen view.entry) work.old result work.new }
 {
-    cells::check_cells(view, work)?;
-    cells::check_entries(view, work)?;
-    functors::check_first(view, work)
+    let notes = view.heap.len();
+    cells::check_cells(view, work, notes)?;
+    cells::check_entries(view, work, notes)?;
+    functors::check_first(view, work, notes)
 }
 
 // Refusals 2 to 7 and 17, of an image of legal size; the work words are blank.
@@ -55,11 +56,12 @@ fn check_image(view: View<'_>, work: &mut [u32]) -> Result<(), Refusal>
         return Err(Refusal::Registers);
     }
     let area = Area::Stack;
-    if let Err(at) = chains::walk(view, work) {
+    let notes = view.heap.len();
+    if let Err(at) = chains::walk(view, work, notes) {
         let index = at as usize;
         return Err(Refusal::Chain(Place { area, index }));
     }
-    if let Some(index) = chains::apart(view, work) {
+    if let Some(index) = chains::apart(work, notes, view.stack.len()) {
         return Err(Refusal::Roles(Place { area, index }));
     }
     check_noted(view, work)

@@ -1,16 +1,14 @@
--- The three areas under one number: none refuses where all are clean, and else the first in which a place was found does. Assumes
--- nothing.
-use Rattle.std.specs.Prelude.{Option}
-use Prim.Native.Nat.{ℕ, ◌+◌, ◌<◌}
+-- The three areas under one number: none refuses where all are clean. One area of which the lowest place is in hand: it gives the refusal,
+-- or gives way to the next. Assumes nothing.
+use Rattle.std.specs.Prelude.{Some, None}
+use Prim.Native.Nat.{ℕ, ◌<◌}
 use mathlib.Core.Path.{◌≡◌, sym}
 use mathlib.Core.Bool.{Bool, false}
-use mathlib.Core.List.{List, []}
-use Rattle.machine.specs.declared.Area.TheVariants.{Heap, Stack, Control}
-use Rattle.machine.specs.Layout.{fixed}
-use Rattle.machine.specs.Refusals.{in_area, Verdict, accepted, refused, or_else, first_of}
+use mathlib.Core.List.{List, [], ◌∷◌}
+use Rattle.machine.specs.Refusals.{Where, Verdict, accepted, refused, scan, or_else, first_of}
 use Rattle.machine.specs.Lowest.{Lowest}
-use Rattle.machine.proofs.Lowest.{found, scan-lowest}
-use Rattle.machine.proofs.Firsts.{scan-passes, all_first, else-assoc}
+use Rattle.machine.proofs.Lowest.{scan-lowest}
+use Rattle.machine.proofs.Firsts.{scan-passes, all_first, else-assoc, first-given, first-skips}
 use Rattle.cells.specs.Cells.{in_areas}
 
 module _ (number : ℕ) (p : ℕ → Bool) (h : ℕ) (q : ℕ → Bool) (count : ℕ) (r : ℕ → Bool) (n : ℕ) where
@@ -23,7 +21,9 @@ module _ (number : ℕ) (p : ℕ → Bool) (h : ℕ) (q : ℕ → Bool) (count :
   unfolding in_areas first_of or_else
   areas-then later = sym (simp else-assoc)
 
-  -- what was found in each
-  pub placed : (heap stack argument : Option ℕ) → Lowest p h heap → Lowest q count stack → Lowest r n argument → first_of (in_areas number p h q count r n []) ≡ or_else (found (λ i. refused number (in_area Heap i)) heap) (or_else (found (λ i. refused number (in_area Stack i)) stack) (or_else (found (λ i. refused number (in_area Control (fixed + i))) argument) accepted))
-  unfolding in_areas first_of
-  placed heap stack argument a b c = rw (scan-lowest p h _ heap a, scan-lowest q count _ stack b, scan-lowest r n _ argument c)
+module _ (number : ℕ) (bad : ℕ → Bool) (n : ℕ) (place : ℕ → Where) (later : List Verdict) where
+  pub finds : (i : ℕ) → Lowest bad n (Some i) → refused number (place i) ≡ first_of (scan bad n (λ j. refused number (place j)) ∷ later)
+  finds i f = sym (first-given _ later (scan-lowest bad n (λ j. refused number (place j)) (Some i) f))
+
+  pub passes : Lowest bad n None → first_of later ≡ first_of (scan bad n (λ j. refused number (place j)) ∷ later)
+  passes f = sym (first-skips _ later (scan-lowest bad n (λ j. refused number (place j)) None f))

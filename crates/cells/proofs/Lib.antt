@@ -3,3 +3,4 @@ pub mod Clean
 pub mod Areas
 pub mod Bridge
 pub mod Ranges
+pub mod Same

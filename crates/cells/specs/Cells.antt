@@ -1,18 +1,16 @@
--- The checks of cells and trail entries, with the notes of the stack words for their roles: one note a word in the work words, which
--- begin where those of the heap's cells end, 0 for no role, else the role's number. Assumes nothing.
+-- The checks of cells and trail entries, with the notes of the stack words for their roles: one note a word, in the work words from `notes`
+-- on, 0 for no role, else the role's number. Assumes nothing.
 use Rattle.cells.specs.declared.places.Bad.{Bad}
 use Rattle.cells.specs.declared.places.Bad.TheVariants.{Bits, Reference}
 use Rattle.machine.specs.declared.Refusal.{Refusal}
-use Rattle.machine.specs.declared.Place.{Place}
-use Rattle.std.specs.Prelude.{Result, Ok, Err, Option, Some, None, MatchOption, MatchBool}
+use Rattle.std.specs.Prelude.{Result, Ok, Err, Option, MatchOption, MatchBool}
 use Rattle.std.specs.Prelude.{ℕ, ◌+◌, ◌-◌, ◌≤◌, ◌<◌, ◌≡◌, Bool, true, false, ◌&&◌, ◌||◌, not, List, [], ◌∷◌, length, get_or, eqb, leb, ltb}
 use Rattle.cell.specs.Word.{pick, VAR, STRUCT, LIST, CONST, value_of, tag_of, stack_base, in_heap, arity_of}
 use Rattle.machine.specs.declared.Area.TheVariants.{Heap, Stack, Control}
 use Rattle.machine.specs.Layout.{Image, H, N, T, fixed, reg, argument, heap_most, stack_most}
 use Rattle.machine.specs.Roles.{cell, code_of, is_cell, is_field, note_at}
-use Rattle.machine.specs.Refusals.{in_area, Verdict, accepted, refused, scan, marked, functor_at, refers_well, bad_heap, first_of}
-use Rattle.machine.specs.Lowest.{Lowest}
-use Rattle.machine.specs.Answers.{place_in, verdict_of}
+use Rattle.machine.specs.Refusals.{in_area, Verdict, accepted, refused, scan, marked, functor_at, refers_well, bad_heap}
+use Rattle.machine.specs.Answers.{verdict_of}
 
 -- the registers H, T and n
 abbrev pub top : Image → ℕ
@@ -29,11 +27,6 @@ unfoldable pub checked_to : Result (Unit {0}) Refusal → Verdict
 checked_to (Ok tt) = accepted
 checked_to (Err r) = verdict_of r
 
--- the verdict under a number where a place was found
-abbrev pub found_at : ℕ → Option Place → Verdict
-found_at number None = accepted
-found_at number (Some place) = refused number (place_in place)
-
 abbrev pub notes_cell : List ℕ → ℕ → ℕ → Bool
 notes_cell work notes i = eqb (note_at work notes i) (code_of cell)
 
@@ -42,16 +35,16 @@ abbrev pub notes_field : List ℕ → ℕ → ℕ → Bool
 notes_field work notes i = ltb (code_of cell) (note_at work notes i)
 
 -- a VAR that holds the address of a stack word that is a cell
-unfoldable pub names_noted : Image → List ℕ → ℕ → Bool
-names_noted X work w =
+unfoldable pub names_noted : Image → List ℕ → ℕ → ℕ → Bool
+names_noted X work notes w =
     eqb (tag_of w) VAR
-    && (leb stack_base (value_of w) && (ltb (value_of w - stack_base) (length X.stack) && notes_cell work (length X.heap) (value_of w - stack_base)))
+    && (leb stack_base (value_of w) && (ltb (value_of w - stack_base) (length X.stack) && notes_cell work notes (value_of w - stack_base)))
 
 unfoldable pub marked_in : List ℕ → ℕ → Bool
 marked_in heap i = marked (get_or heap i 0)
 
-unfoldable pub marked_cell : Image → List ℕ → ℕ → Bool
-marked_cell X work i = notes_cell work (length X.heap) i && marked (get_or X.stack i 0)
+unfoldable pub marked_cell : Image → List ℕ → ℕ → ℕ → Bool
+marked_cell X work notes i = notes_cell work notes i && marked (get_or X.stack i 0)
 
 unfoldable pub marked_argument : List ℕ → ℕ → Bool
 marked_argument control i = marked (argument control 0 i)
@@ -73,33 +66,33 @@ unfoldable pub struct_good : Image → ℕ → Bool
 struct_good X i = not (eqb (tag_of (get_or X.heap i 0)) STRUCT) || functor_well X.heap (reg X H) (value_of (get_or X.heap i 0))
 
 -- the word w may be the cell at i of the stack
-unfoldable pub well_on_stack : Image → List ℕ → ℕ → ℕ → Bool
-well_on_stack X work i w = refers_well (reg X H) X.heap w || (names_noted X work w && leb (value_of w) (stack_base + i))
+unfoldable pub well_on_stack : Image → List ℕ → ℕ → ℕ → ℕ → Bool
+well_on_stack X work notes i w = refers_well (reg X H) X.heap w || (names_noted X work notes w && leb (value_of w) (stack_base + i))
 
-unfoldable pub wrong_stack : Image → List ℕ → ℕ → Bool
-wrong_stack X work i = notes_cell work (length X.heap) i && not (well_on_stack X work i (get_or X.stack i 0))
+unfoldable pub wrong_stack : Image → List ℕ → ℕ → ℕ → Bool
+wrong_stack X work notes i = notes_cell work notes i && not (well_on_stack X work notes i (get_or X.stack i 0))
 
 -- the word w may be a saved argument
-unfoldable pub well_as_argument : Image → List ℕ → ℕ → Bool
-well_as_argument X work w = refers_well (reg X H) X.heap w || names_noted X work w
+unfoldable pub well_as_argument : Image → List ℕ → ℕ → ℕ → Bool
+well_as_argument X work notes w = refers_well (reg X H) X.heap w || names_noted X work notes w
 
-unfoldable pub wrong_argument : Image → List ℕ → ℕ → Bool
-wrong_argument X work i = not (well_as_argument X work (argument X.control 0 i))
+unfoldable pub wrong_argument : Image → List ℕ → ℕ → ℕ → Bool
+wrong_argument X work notes i = not (well_as_argument X work notes (argument X.control 0 i))
 
 -- a is a heap index below H or the address of a stack word that is no field
-unfoldable pub well_entry : Image → List ℕ → ℕ → Bool
-well_entry X work a =
+unfoldable pub well_entry : Image → List ℕ → ℕ → ℕ → Bool
+well_entry X work notes a =
     (in_heap a && ltb a (reg X H))
-    || (leb stack_base a && (ltb (a - stack_base) (length X.stack) && not (notes_field work (length X.heap) (a - stack_base))))
+    || (leb stack_base a && (ltb (a - stack_base) (length X.stack) && not (notes_field work notes (a - stack_base))))
 
-unfoldable pub wrong_entry : Image → List ℕ → ℕ → Bool
-wrong_entry X work i = not (well_entry X work (get_or X.trail i 0))
+unfoldable pub wrong_entry : Image → List ℕ → ℕ → ℕ → Bool
+wrong_entry X work notes i = not (well_entry X work notes (get_or X.trail i 0))
 
 -- the note of the stack word that the address a names, if it names one
-abbrev pub NoteOf : Image → List ℕ → ℕ → Option ℕ → Type 0
-NoteOf X work a r =
+abbrev pub NoteOf : Image → List ℕ → ℕ → ℕ → Option ℕ → Type 0
+NoteOf X work notes a r =
     MatchOption r (stack_base ≤ a → length X.stack ≤ a - stack_base)
-    (λ note. (stack_base ≤ a) × (a - stack_base < length X.stack) × (note ≡ note_at work (length X.heap) (a - stack_base)))
+    (λ note. (stack_base ≤ a) × (a - stack_base < length X.stack) × (note ≡ note_at work notes (a - stack_base)))
 
 -- the three areas with cells under one number, in their order, and what is checked after them
 unfoldable pub in_areas : ℕ → (ℕ → Bool) → ℕ → (ℕ → Bool) → ℕ → (ℕ → Bool) → ℕ → List Verdict → List Verdict
@@ -118,22 +111,17 @@ unfoldable pub on_heap : Bad → Image → ℕ → Bool
 on_heap Bits X = marked_in X.heap
 on_heap Reference X = bad_heap X
 
-unfoldable pub on_stack : Bad → Image → List ℕ → ℕ → Bool
-on_stack Bits X work = marked_cell X work
-on_stack Reference X work = wrong_stack X work
+unfoldable pub on_stack : Bad → Image → List ℕ → ℕ → ℕ → Bool
+on_stack Bits X work notes = marked_cell X work notes
+on_stack Reference X work notes = wrong_stack X work notes
 
-unfoldable pub on_control : Bad → Image → List ℕ → ℕ → Bool
-on_control Bits X work = marked_argument X.control
-on_control Reference X work = wrong_argument X work
+unfoldable pub on_control : Bad → Image → List ℕ → ℕ → ℕ → Bool
+on_control Bits X work notes = marked_argument X.control
+on_control Reference X work notes = wrong_argument X work notes
 
 -- 5 or 6 over the areas
-unfoldable pub checks_of : Bad → Image → List ℕ → List Verdict
-checks_of bad X work = in_areas (number_of bad) (on_heap bad X) (top X) (on_stack bad X work) (length X.stack) (on_control bad X work) (saved X) []
-
--- what was found in each area, by whatever test, gives the place under whatever number
-pub record PlaceOf (heap stack argument : Option ℕ) (r : Option Place) : Type 0 where
-  pub gives : (number : ℕ) (p q s : ℕ → Bool) (h count n : ℕ) → Lowest p h heap → Lowest q count stack → Lowest s n argument
-      → found_at number r ≡ first_of (in_areas number p h q count s n [])
+unfoldable pub checks_of : Bad → Image → List ℕ → ℕ → List Verdict
+checks_of bad X work notes = in_areas (number_of bad) (on_heap bad X) (top X) (on_stack bad X work notes) (length X.stack) (on_control bad X work notes) (saved X) []
 
 -- the test holds of each index below n, or not of all
 abbrev pub Every : (ℕ → Bool) → ℕ → Bool → Type 0
@@ -156,14 +144,14 @@ pub record Right (X : Image) (work : List ℕ) (notes : ℕ) : Type 0 where
   pub inside : (i : ℕ) → is_cell X i ≡ true → i < length X.stack
 
 -- the sizes of what is checked
-pub record Sized (X : Image) (work : List ℕ) : Type 0 where
+pub record Sized (X : Image) (work : List ℕ) (notes : ℕ) : Type 0 where
   pub top : reg X H ≤ length X.heap
   pub small : length X.heap ≤ heap_most
   pub low : length X.stack ≤ stack_most
-  pub room : length X.heap + length X.stack ≤ length work
+  pub room : notes + length X.stack ≤ length work
   pub arguments : fixed + reg X N ≤ length X.control
 
-pub record EntriesSized (X : Image) (work : List ℕ) : Type 0 where
+pub record EntriesSized (X : Image) (work : List ℕ) (notes : ℕ) : Type 0 where
   pub registers : fixed ≤ length X.control
   pub top : reg X T ≤ length X.trail
-  pub room : length X.heap + length X.stack ≤ length work
+  pub room : notes + length X.stack ≤ length work

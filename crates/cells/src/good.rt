@@ -69,16 +69,15 @@ fn heap_good(image: Noted<'_>) -> bool
 #[tactic(auto, unfolding(crate::specs::Cells::marked_cell, crate::specs::Cells::wrong_stack))]
 fn cell_good(image: Noted<'_>, i: usize) -> bool
     requires { i < length image.view.stack.now }
-    ensures { result ≡ clean (marked_cell (seen image.entry.view) image.entry.work.now) (wrong_stack (seen image.entry.view) image.entry.work.now) i }
+    ensures { result ≡ clean (marked_cell (seen image.entry.view) image.entry.work.now image.entry.notes) (wrong_stack (seen image.entry.view) image.entry.work.now image.entry.notes) i }
 {
     let word = image.view.stack[i];
-    image.work[image.view.heap.len() + i] != CELL
-        || !marked(word) && stack_word_well(image, i, word)
+    image.work[image.notes + i] != CELL || !marked(word) && stack_word_well(image, i, word)
 }
 
 // Whether every stack cell is good.
 fn stack_good(image: Noted<'_>) -> bool
-    ensures { Every (clean (marked_cell (seen image.entry.view) image.entry.work.now) (wrong_stack (seen image.entry.view) image.entry.work.now)) (length image.entry.view.stack.now) result }
+    ensures { Every (clean (marked_cell (seen image.entry.view) image.entry.work.now image.entry.notes) (wrong_stack (seen image.entry.view) image.entry.work.now image.entry.notes)) (length image.entry.view.stack.now) result }
 {
     (0..image.view.stack.len()).all(|i| cell_good(image, i))
 }
@@ -87,7 +86,7 @@ fn stack_good(image: Noted<'_>) -> bool
 #[tactic(auto, unfolding(machine::specs::Layout::field, machine::specs::Layout::argument, crate::specs::Cells::marked_argument, crate::specs::Cells::wrong_argument))]
 fn argument_good(image: Noted<'_>, i: usize) -> bool
     requires { i < saved (seen image.view) }
-    ensures { result ≡ clean (marked_argument image.entry.view.control.now) (wrong_argument (seen image.entry.view) image.entry.work.now) i }
+    ensures { result ≡ clean (marked_argument image.entry.view.control.now) (wrong_argument (seen image.entry.view) image.entry.work.now image.entry.notes) i }
 {
     let word = image.view.control[FIXED + i];
     !marked(word) && argument_well(image, word)
@@ -95,14 +94,14 @@ fn argument_good(image: Noted<'_>, i: usize) -> bool
 
 // Whether every saved argument is good.
 fn control_good(image: Noted<'_>) -> bool
-    ensures { Every (clean (marked_argument image.entry.view.control.now) (wrong_argument (seen image.entry.view) image.entry.work.now)) (saved (seen image.entry.view)) result }
+    ensures { Every (clean (marked_argument image.entry.view.control.now) (wrong_argument (seen image.entry.view) image.entry.work.now image.entry.notes)) (saved (seen image.entry.view)) result }
 {
     (0..image.saved()).all(|i| argument_good(image, i))
 }
 
 // Whether no cell is refused under 5 or 6.
 pub(super) fn all_good(image: Noted<'_>) -> bool
-    ensures { (bad : Bad) → result ≡ true → first_of (checks_of bad (seen image.entry.view) image.entry.work.now) ≡ accepted }
+    ensures { (bad : Bad) → result ≡ true → first_of (checks_of bad (seen image.entry.view) image.entry.work.now image.entry.notes) ≡ accepted }
 {
     heap_good(image) && stack_good(image) && control_good(image)
 }

@@ -8,6 +8,7 @@ mod good; // good.rt: whether every cell is good
 mod places; // places.rt: the lowest place for 5, for 6 and for 7
 
 ghost use Rattle.std.specs.Prelude.{◌≡◌, [], length};
+ghost use Rattle.machine.specs.Layout.{Image};
 ghost use Rattle.machine.specs.Lent.{seen};
 ghost use Rattle.machine.specs.Refusals.{first_of, cell_checks, entry_checks};
 ghost use Rattle.cells.specs.Cells.{checked_to, Right, Sized, EntriesSized};
@@ -16,12 +17,13 @@ use machine::{Area, Place, Refusal, View};
 use noted::Noted;
 use places::Bad;
 
-// Refusals 5 and 6, of an image whose stack words are noted in the work words, after one for each heap cell.
-pub fn check_cells(view: View<'_>, work: &[u32]) -> Result<(), Refusal>
-    requires { Sized (seen view) work.now }
-    ensures { Right (seen view.entry) work.now (length view.entry.heap.now) → checked_to result ≡ first_of (cell_checks (seen view.entry) []) }
+// Refusals 5 and 6, of an image whose stack words are noted in the work words from `notes` on.
+pub fn check_cells(view: View<'_>, work: &[u32], notes: usize) -> Result<(), Refusal>
+    requires { Sized (seen view) work.now notes }
+    ensures { (X : Image) → X.control ≡ view.entry.control.now → X.stack ≡ view.entry.stack.now → X.heap ≡ view.entry.heap.now → Right X work.now notes
+        → checked_to result ≡ first_of (cell_checks X []) }
 {
-    let image = Noted { view, work };
+    let image = Noted { view, work, notes };
     if good::all_good(image) {
         return Ok(());
     }
@@ -30,11 +32,12 @@ pub fn check_cells(view: View<'_>, work: &[u32]) -> Result<(), Refusal>
 }
 
 // Refusal 7, of such an image.
-pub fn check_entries(view: View<'_>, work: &[u32]) -> Result<(), Refusal>
-    requires { EntriesSized (seen view) work.now }
-    ensures { Right (seen view.entry) work.now (length view.entry.heap.now) → checked_to result ≡ first_of (entry_checks (seen view.entry) []) }
+pub fn check_entries(view: View<'_>, work: &[u32], notes: usize) -> Result<(), Refusal>
+    requires { EntriesSized (seen view) work.now notes }
+    ensures { (X : Image) → X.control ≡ view.entry.control.now → length X.stack ≡ length view.entry.stack.now → X.trail ≡ view.entry.trail.now → Right X work.now notes
+        → checked_to result ≡ first_of (entry_checks X []) }
 {
-    match places::wrong_entry(view, work) {
+    match places::wrong_entry(view, work, notes) {
         Some(index) => Err(Refusal::Entry(Place {
             area: Area::Trail,
             index,

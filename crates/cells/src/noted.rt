@@ -5,12 +5,13 @@ ghost use Rattle.cells.specs.Cells.{top, saved, Sized};
 
 use machine::{H, N, View};
 
-// The notes stand in the work words, after one word for each heap cell.
+// The notes stand in the work words from `notes` on.
 #[derive(Clone, Copy)]
 pub(super) struct Noted<'a> {
     pub view: View<'a>,
     pub work: &'a [u32],
-    ghost sized: { Sized (seen view) work.now },
+    pub notes: usize,
+    ghost sized: { Sized (seen view) work.now notes },
 }
 
 impl Noted<'_> {

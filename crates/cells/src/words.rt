@@ -43,27 +43,28 @@ pub(super) fn refers_well(image: Noted<'_>, word: u32) -> bool
 }
 
 // The note of the stack word that an address names, if it names one.
-fn note_of(view: View<'_>, work: &[u32], address: u32) -> Option<u32>
-    requires { length view.heap.now + length view.stack.now ≤ length work.now }
-    ensures { NoteOf (seen view.entry) work.now address result }
+fn note_of(view: View<'_>, work: &[u32], notes: usize, address: u32) -> Option<u32>
+    requires { notes + length view.stack.now ≤ length work.now }
+    ensures { NoteOf (seen view.entry) work.now notes address result }
 {
     let i = address.checked_sub(STACK_BASE)? as usize;
-    (i < view.stack.len()).then(|| work[view.heap.len() + i])
+    (i < view.stack.len()).then(|| work[notes + i])
 }
 
 // Whether a word is a VAR that names a stack word which is a cell.
 #[tactic(auto, unfolding(crate::specs::Cells::names_noted))]
 fn names_cell(image: Noted<'_>, word: u32) -> bool
-    ensures { result ≡ names_noted (seen image.entry.view) image.entry.work.now word }
+    ensures { result ≡ names_noted (seen image.entry.view) image.entry.work.now image.entry.notes word }
 {
-    Tag::of(word) == Tag::Var && note_of(image.view, image.work, cell::value(word)) == Some(CELL)
+    Tag::of(word) == Tag::Var
+        && note_of(image.view, image.work, image.notes, cell::value(word)) == Some(CELL)
 }
 
 // Whether the stack word at i may hold this cell.
 #[tactic(auto, unfolding(crate::specs::Cells::well_on_stack))]
 pub(super) fn stack_word_well(image: Noted<'_>, i: usize, word: u32) -> bool
     requires { i < length image.view.stack.now }
-    ensures { result ≡ well_on_stack (seen image.entry.view) image.entry.work.now i word }
+    ensures { result ≡ well_on_stack (seen image.entry.view) image.entry.work.now image.entry.notes i word }
 {
     refers_well(image, word)
         || names_cell(image, word) && cell::value(word) as usize <= STACK_BASE as usize + i
@@ -72,17 +73,17 @@ pub(super) fn stack_word_well(image: Noted<'_>, i: usize, word: u32) -> bool
 // Whether a saved argument of the control area may be this cell.
 #[tactic(auto, unfolding(crate::specs::Cells::well_as_argument))]
 pub(super) fn argument_well(image: Noted<'_>, word: u32) -> bool
-    ensures { result ≡ well_as_argument (seen image.entry.view) image.entry.work.now word }
+    ensures { result ≡ well_as_argument (seen image.entry.view) image.entry.work.now image.entry.notes word }
 {
     refers_well(image, word) || names_cell(image, word)
 }
 
 // Whether a trail entry names a heap cell below H or a stack word that is no field.
 #[tactic(auto, unfolding(machine::specs::Layout::field, crate::specs::Cells::well_entry))]
-pub(super) fn entry_well(view: View<'_>, work: &[u32], entry: u32) -> bool
-    requires { EntriesSized (seen view) work.now }
-    ensures { result ≡ well_entry (seen view.entry) work.now entry }
+pub(super) fn entry_well(view: View<'_>, work: &[u32], notes: usize, entry: u32) -> bool
+    requires { EntriesSized (seen view) work.now notes }
+    ensures { result ≡ well_entry (seen view.entry) work.now notes entry }
 {
     cell::in_heap(entry) && entry < view.control[H]
-        || note_of(view, work, entry).is_some_and(|note| note <= CELL)
+        || note_of(view, work, notes, entry).is_some_and(|note| note <= CELL)
 }

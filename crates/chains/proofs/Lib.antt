@@ -8,3 +8,4 @@ pub mod Walkings
 pub mod Faults
 pub mod Ends
 pub mod Conflicts
+pub mod Same

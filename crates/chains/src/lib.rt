@@ -152,25 +152,25 @@ fn walk_points(view: View<'_>, notes: &mut [u32]) -> Result<(), u32>
     Ok(())
 }
 
-// Notes every role in the work words behind the heap's, which are blank, or answers the index of the first frame or choice point that
-// breaks a chain, as its pointer holds it.
-pub fn walk(view: View<'_>, work: &mut [u32]) -> Result<(), u32>
-    requires { Blank view.control.now view.stack.now work.old (length view.heap.now) }
-    ensures { Walks (seen view.entry) work.old (length view.entry.heap.now) result work.new }
+// Notes every role in the work words from `notes` on, which are blank, or answers the index of the first frame or choice point that breaks
+// a chain, as its pointer holds it.
+pub fn walk(view: View<'_>, work: &mut [u32], notes: usize) -> Result<(), u32>
+    requires { Blank view.control.now view.stack.now work.old notes }
+    ensures { (X : Image) → X.control ≡ view.entry.control.now → X.stack ≡ view.entry.stack.now → Walks X work.old notes result work.new }
 {
     let View { control, stack, .. } = view;
-    let notes = &mut work[view.heap.len()..];
-    walk_frames(view, notes, control[E], control[L], stack.len())?;
-    walk_points(view, notes)
+    let noted = &mut work[notes..];
+    walk_frames(view, noted, control[E], control[L], stack.len())?;
+    walk_points(view, noted)
 }
 
-// The lowest stack word whose note is of several roles.
+// The lowest of `count` words whose note is of several roles.
 #[tactic(auto, unfolding(crate::specs::Notes::several_at))]
-pub fn apart(view: View<'_>, work: &[u32]) -> Option<usize>
-    requires { length view.heap.now + length view.stack.now ≤ length work.now }
-    ensures { Lowest (several_at work.now (length view.entry.heap.now)) (length view.entry.stack.now) result }
+pub fn apart(work: &[u32], notes: usize, count: usize) -> Option<usize>
+    requires { notes + count ≤ length work.now }
+    ensures { Lowest (several_at work.now notes) count result }
 {
-    work[view.heap.len()..][..view.stack.len()]
+    work[notes..][..count]
         .iter()
         .position(|note| SEVERAL <= *note)
 }

@@ -3,7 +3,6 @@ pub mod Slices
 pub mod Flagging
 pub mod Covering
 pub mod Apart
-pub mod Areas
 pub mod Seeking
 pub mod Passing
 pub mod Bridge

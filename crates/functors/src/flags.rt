@@ -56,14 +56,14 @@ fn flag_stack(stack: &[u32], notes: &[u32], work: &mut [u32]) -> usize
 
 // Of all three.
 #[tactic(auto, unfolding(machine::specs::Layout::field))]
-pub(super) fn flag_all(view: View<'_>, work: &mut [u32]) -> usize
-    requires { Contained (seen view) work.old (length view.heap.now) }
-    ensures { let X = seen view.entry in Flags (first_in X work.old (length X.heap)) work.old work.new result (length X.stack + reg X N + reg X H) }
+pub(super) fn flag_all(view: View<'_>, work: &mut [u32], notes: usize) -> usize
+    requires { Contained (seen view) work.old notes }
+    ensures { let X = seen view.entry in Flags (first_in X work.old notes) work.old work.new result (length X.stack + reg X N + reg X H) }
 {
     let h = view.control[machine::H] as usize;
     let n = view.control[machine::N] as usize;
-    let (front, notes) = work.split_at_mut(view.heap.len());
-    let on_stack = flag_stack(view.stack, notes, front);
+    let (front, noted) = work.split_at_mut(notes);
+    let on_stack = flag_stack(view.stack, noted, front);
     let in_control = flag_words(&view.control[FIXED..FIXED + n], front);
     let on_heap = flag_words(&view.heap[..h], front);
     on_stack + in_control + on_heap

@@ -15,19 +15,24 @@ ghost use Rattle.functors.specs.Functors.{Checkable, ChecksFirst};
 use machine::{H, Refusal, View};
 use places::Searched;
 
-// Refusal 17, of an image that passes 1 to 7 and whose stack words are noted, behind the heap's part of the work words. They are left as
-// they were.
+// Refusal 17, of an image that passes 1 to 7 and whose stack words are noted in the work words from `notes` on. They are left as they were.
 #[tactic(auto, unfolding(machine::specs::Layout::field))]
-pub fn check_first(view: View<'_>, work: &mut [u32]) -> Result<(), Refusal>
-    requires { Checkable (seen view) work.old (length view.heap.now) }
+pub fn check_first(view: View<'_>, work: &mut [u32], notes: usize) -> Result<(), Refusal>
+    requires { Checkable (seen view) work.old notes }
     ensures { ChecksFirst (seen view.entry) work.old result work.new }
 {
-    if flags::flag_all(view, work) == 0 {
+    if flags::flag_all(view, work, notes) == 0 {
         return Ok(());
     }
     let h = view.control[H] as usize;
     let total = tallies::tally(view.heap, h, work);
-    let checked = Searched { view, work, total }.find();
+    let checked = Searched {
+        view,
+        work,
+        notes,
+        total,
+    }
+    .find();
     work[..h].fill(0);
     checked
 }

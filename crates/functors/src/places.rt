@@ -15,8 +15,9 @@ use machine::{Area, CELL, FIXED, Place, Refusal, View};
 pub(super) struct Searched<'a> {
     pub view: View<'a>,
     pub work: &'a [u32],
+    pub notes: usize,
     pub total: u32,
-    ghost searchable: { Searchable (seen view) work.now (length view.heap.now) },
+    ghost searchable: { Searchable (seen view) work.now notes },
 }
 
 // Whether no VAR and no LIST of some cells covers a flagged cell.
@@ -52,7 +53,7 @@ impl Searched<'_> {
     // decides whether there is any.
     #[tactic(auto, unfolding(machine::specs::Layout::field))]
     fn lowest_heap(self) -> Option<usize>
-        ensures { let X = seen self.entry.view in (firsts : ℕ → Bool) → Telling firsts X self.entry.work.now (length X.heap) self.entry.total
+        ensures { let X = seen self.entry.view in (firsts : ℕ → Bool) → Telling firsts X self.entry.work.now self.entry.notes self.entry.total
             → Lowest (covers_heap firsts X.heap) (reg X H) result }
     {
         let cells = &self.view.heap[..self.view.control[machine::H] as usize];
@@ -65,13 +66,13 @@ impl Searched<'_> {
     // The index of the first of the stack's cells that does.
     #[tactic(auto, unfolding(machine::specs::Layout::field))]
     fn first_stack(self) -> Option<usize>
-        ensures { let X = seen self.entry.view in (firsts : ℕ → Bool) → Telling firsts X self.entry.work.now (length X.heap) self.entry.total
-            → Lowest (covers_stack firsts X.heap X.stack self.entry.work.now (length X.heap)) (length X.stack) result }
+        ensures { let X = seen self.entry.view in (firsts : ℕ → Bool) → Telling firsts X self.entry.work.now self.entry.notes self.entry.total
+            → Lowest (covers_stack firsts X.heap X.stack self.entry.work.now self.entry.notes) (length X.stack) result }
     {
         let view = self.view;
         let h = view.control[machine::H] as usize;
         (0..view.stack.len()).find(|&i| {
-            self.work[view.heap.len() + i] == CELL
+            self.work[self.notes + i] == CELL
                 && covers_first(view.heap, h, self.work, self.total, view.stack[i])
         })
     }
@@ -88,8 +89,8 @@ impl Searched<'_> {
     // 17: a cell or a trail entry covers a first cell.
     #[tactic(auto, unfolding(machine::specs::Layout::field))]
     pub(super) fn find(self) -> Result<(), Refusal>
-        ensures { let X = seen self.entry.view in (firsts : ℕ → Bool) → Telling firsts X self.entry.work.now (length X.heap) self.entry.total
-            → checked_to result ≡ first_of (covered_checks firsts X self.entry.work.now (length X.heap)) }
+        ensures { let X = seen self.entry.view in (firsts : ℕ → Bool) → Telling firsts X self.entry.work.now self.entry.notes self.entry.total
+            → checked_to result ≡ first_of (covered_checks firsts X self.entry.work.now self.entry.notes) }
     {
         if let Some(x) = self.lowest_heap() {
             return refuse(Area::Heap, x);

@@ -40,8 +40,9 @@ pub fn owner_of(view: View<'_>, work: &mut [u32], i: usize) -> Owner
     ensures owns { Owns (seen view.entry) i result }
     ensures work_unchanged { work.new ≡ work.old }
 {
-    chains::walk(view, work).unwrap();
-    let owner = noted_owner(&work[view.heap.len()..], i);
-    counts::clear(work, 0, view.heap.len() + view.stack.len());
+    let notes = view.heap.len();
+    chains::walk(view, work, notes).unwrap();
+    let owner = noted_owner(&work[notes..], i);
+    counts::clear(work, 0, notes + view.stack.len());
     owner
 }

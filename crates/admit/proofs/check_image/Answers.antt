@@ -1,7 +1,7 @@
 -- `admit::check_image` meets its contract: registers, chains, roles and noted words are checked in the table's order, each on what the checks
 -- before it have shown. Assumes nothing.
 use Prim.Native.Nat.{◌+◌}
-use mathlib.Core.Path.{◌≡◌, sym, ◌∙◌}
+use mathlib.Core.Path.{◌≡◌, refl, sym, ◌∙◌}
 use mathlib.Core.Bool.{true}
 use native.Mathlib.Omega.{arith}
 use lib.ListN.{length}
@@ -22,15 +22,15 @@ walk-requires c =
     record { registers = c.requires.sizes.least; room = c.requires.room; zero = λ i l. c.requires.blank (length c.args.view.heap.now + i) (omega arith) }
 
 pub returns-in-Err : goal.returns-in-Err
-returns-in-Err c = chain-stop (seen c.args.view) _ (fit (goal.at.returns-in-Err c).Else-not-registers_fit) _ c.in-Err.ensures
+returns-in-Err c = chain-stop (seen c.args.view) _ (fit (goal.at.returns-in-Err c).Else-not-registers_fit) _ (c.in-Err.ensures _ refl refl)
 
 pub returns-in-Some : goal.returns-in-Some
-returns-in-Some c = roles-stop (seen c.args.view) _ (fit (goal.at.returns-in-Some c).Else-not-registers_fit) _ c.in_default.ensures _ c.in-Some.ensures
+returns-in-Some c = roles-stop (seen c.args.view) _ (fit (goal.at.returns-in-Some c).Else-not-registers_fit) _ (c.in_default.ensures _ refl refl) _ c.in-Some.ensures
 
 pub check_noted-requires : goal.check_noted-requires
 check_noted-requires c =
-    words-noted (seen c.args.view) _ (fit (goal.at.check_noted-requires c).Else-not-registers_fit) _ c.in_default.ensures c.in_default-apart.ensures c.requires
+    words-noted (seen c.args.view) _ (fit (goal.at.check_noted-requires c).Else-not-registers_fit) _ (c.in_default.ensures _ refl refl) c.in_default-apart.ensures c.requires
 
 pub returns : goal.returns
 returns c =
-    noted-checked (seen c.args.view) _ (fit (goal.at.returns c).Else-not-registers_fit) _ c.in_default.ensures c.in_default-apart.ensures c.requires c.check_noted.ensures
+    noted-checked (seen c.args.view) _ (fit (goal.at.returns c).Else-not-registers_fit) _ (c.in_default.ensures _ refl refl) c.in_default-apart.ensures c.requires c.check_noted.ensures
