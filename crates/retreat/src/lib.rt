@@ -39,7 +39,10 @@ fn copy(control: &mut [u32], stack: &[u32], b: usize, count: usize)
     requires { (count ≤ length control.old) × (b + count ≤ length stack.now) }
     ensures { control.new ≡ each (copied_word stack.now b count) 0 control.old }
 {
-    control[..count].copy_from_slice(&stack[b..b + count]);
+    // A loop, since the library's copy of a slice would need memmove from whoever links the archive.
+    for i in 0..count {
+        control[i] = stack[b + i];
+    }
 }
 
 // The step back from an image that passes 1 to 7 and 17.
