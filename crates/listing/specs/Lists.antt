@@ -57,10 +57,11 @@ line_most = 95
 abbrev pub names_most : ℕ
 names_most = 29
 
--- no text is longer
+-- the lines of the areas are no longer: their names, the ends of their lines and their words
 abbrev pub areas_most : Image → ℕ
 areas_most lent = 25 + word_most * (length lent.control + length lent.stack + length lent.heap + length lent.trail)
 
+-- no text is longer
 abbrev pub text_most : Image → ℕ
 text_most lent = line_most + names_most + word_most * (length lent.control + length lent.stack + length lent.heap + length lent.trail)
 
