@@ -2,7 +2,7 @@
 use denote.Param.Members.{Mut}
 use denote.Ref.{Bor}
 use mathlib.Core.Path.{◌≡◌, sym, subst}
-use Rattle.std.specs.Prelude.{ℕ, ◌+◌, ◌^◌, ◌≤◌, ◌<◌, Bool, true, false, List, length, Option, Some, None, IfSome, MatchBool, MatchOption}
+use Rattle.std.specs.Prelude.{ℕ, ◌≤◌, ◌<◌, Bool, true, false, List, length, Option, Some, None, MatchBool, MatchOption}
 use Rattle.std.proofs.Common.{arith}
 use Rattle.std.specs.declared.ops.Range.{Range}
 use Rattle.std.specs.Bool.{⊤}
@@ -12,7 +12,6 @@ use Rattle.std.specs.List.{range_with_len, FoldsTo, AllWithin, HoldsAt}
 use Rattle.std.proofs.iter.Yields.{nat_range_steps}
 use Rattle.std.proofs.lemmas.Iterator.{cases_from_all, first_from_Range, YieldsList-from_range}
 use Rattle.std.proofs.lemmas.List.FromFn.{get_or-range_with_len, length-range_with_len}
-use Rattle.machine.specs.Layout.{fixed}
 use Rattle.machine.specs.Lowest.{Lowest}
 use Rattle.cells.specs.Cells.{Every}
 
@@ -27,11 +26,6 @@ module _ (test : ℕ → Bool) (n : ℕ) where
   lowest : (o : Option ℕ) → MatchOption o ((k : ℕ) → 0 ≤ k → k < n → test k ≡ false) (λ i. (0 ≤ i) × (i < n) × (test i ≡ true) × ((k : ℕ) → 0 ≤ k → k < i → test k ≡ false)) → Lowest test n o
   lowest None h = λ i l. h i (omega arith) l
   lowest (Some i) h = (h.1, h.2, λ j l. h.3 j (omega arith) l)
-
-  -- the place of a saved argument that is found is a machine number
-  pub fits : fixed + n ≤ 2 ^ 64 → (r : Option ℕ) → Lowest test n r → IfSome r (λ i. fixed + i < 2 ^ 64)
-  fits l None h = tt
-  fits l (Some i) h = omega (arith, h.0)
 
   module _ {F : Type 0} {s : Range ℕ} (e : s ≡ record { start = 0; end = n }) (u : Range ℕ) (f : F) where
     pub every-all : {g : Mut F (ℕ × Unit {0}) Bool} (r : Bool) → (xs : List ℕ) × (o : Option ℕ) × (j : F) × YieldsThen nat_range_steps s xs o u × FoldsTo (λ p x q. Called g p (x, tt) true q) f xs j × MatchOption o (r ≡ true) (λ x. (r ≡ false) × ((h : F) × Called g j (x, tt) false h)) → ((x : ℕ) (b : Bool) (q : F) → Called g f (x, tt) b q → (q ≡ f) × (b ≡ test x)) → Every test n r

@@ -77,7 +77,8 @@ fn cell_good(image: Noted<'_>, i: usize) -> bool
 
 // Whether every stack cell is good.
 fn stack_good(image: Noted<'_>) -> bool
-    ensures { Every (clean (marked_cell (seen image.entry.view) image.entry.work.now image.entry.notes) (wrong_stack (seen image.entry.view) image.entry.work.now image.entry.notes)) (length image.entry.view.stack.now) result }
+    ensures { let X = seen image.entry.view in
+        Every (clean (marked_cell X image.entry.work.now image.entry.notes) (wrong_stack X image.entry.work.now image.entry.notes)) (length X.stack) result }
 {
     (0..image.view.stack.len()).all(|i| cell_good(image, i))
 }

@@ -75,10 +75,10 @@ fn on_control(bad: Bad, image: Noted<'_>, i: usize) -> bool
 fn first_stack(bad: Bad, image: Noted<'_>) -> Option<usize>
     ensures { Lowest (on_stack bad (seen image.entry.view) image.entry.work.now image.entry.notes) (length image.entry.view.stack.now) result }
 {
-    let mut words = 0..image.view.stack.len();
+    let mut indexes = 0..image.view.stack.len();
     match bad {
-        Bad::Bits => words.find(|&i| on_stack(Bad::Bits, image, i)),
-        Bad::Reference => words.find(|&i| on_stack(Bad::Reference, image, i)),
+        Bad::Bits => indexes.find(|&i| on_stack(Bad::Bits, image, i)),
+        Bad::Reference => indexes.find(|&i| on_stack(Bad::Reference, image, i)),
     }
 }
 
